@@ -1,0 +1,81 @@
+#!/usr/bin/env python3
+"""Prints the tables of docs/CHECKS.md from a run of the gate.
+
+    bash .ci/run > /tmp/gate.log 2>&1; tools/checks.py /tmp/gate.log
+
+Times are those that the log gives; the lines are counted in the tree; a must-fail edit's first line
+says what it rules out, and its log under target/must-fail/ has the checker's first words. With
+--memory each crate is checked once more, alone, for the peak memory of its check (Linux).
+"""
+
+import re
+import subprocess
+import sys
+from pathlib import Path
+
+ROOT = Path(__file__).resolve().parent.parent
+CRATES = ROOT / "crates"
+
+
+def names():
+    lines = (ROOT / "crates.txt").read_text().splitlines()
+    return [line.split(":")[0] for line in lines if line and not line.startswith("#")]
+
+
+def lines_in(folder, ending):
+    return sum(len(f.read_text().splitlines()) for f in folder.rglob(f"*{ending}"))
+
+
+def peak_mebibytes(name):
+    """The largest process of a check of one crate from nothing, its dependencies proved before."""
+    subprocess.run(["rt", "check", name], cwd=ROOT, capture_output=True)
+    (ROOT / "target" / "stamp" / name).unlink(missing_ok=True)
+    script = "import resource,subprocess,sys;" \
+        "subprocess.run(['rt','check',sys.argv[1]],capture_output=True);" \
+        "print(resource.getrusage(resource.RUSAGE_CHILDREN).ru_maxrss//1024)"
+    run = subprocess.run([sys.executable, "-c", script, name], cwd=ROOT, capture_output=True, text=True)
+    return run.stdout.strip()
+
+
+def first_words(name, label):
+    log = ROOT / "target" / "must-fail" / name / label / ".log"
+    for line in log.read_text().splitlines():
+        found = re.search(r"(error: .*|it is not proved .*)", line)
+        if found:
+            words = found.group(1).removeprefix("error: ")
+            words = re.sub(r"Rattle·\w+·(specs|proofs)\.(specs|proofs)\.", "", words)
+            return (words[:150] + " ..") if len(words) > 150 else words
+    return "no error found"
+
+
+def main():
+    log = Path(sys.argv[1]).read_text()
+    memory = "--memory" in sys.argv
+    times = dict(re.findall(r"^rt: (\w+) proved \((\d+) s\)", log, re.M))
+    edits = re.findall(r"^rt: must-fail (\w+)/(\w+): refused.*?(\d+) s\)", log, re.M)
+    spent = {}
+    for name, _, seconds in edits:
+        spent.setdefault(name, []).append(int(seconds))
+
+    print("| crate | check, s |" + (" peak, MiB |" if memory else "") + " edits | s an edit | src | specs | proofs |")
+    print("|---|---|" + ("---|" if memory else "") + "---|---|---|---|---|")
+    for name in names():
+        each = spent.get(name, [])
+        row = [f"`{name}`", times.get(name, "?")]
+        row += [peak_mebibytes(name)] if memory else []
+        row += [str(len(each)), f"{sum(each) / len(each):.0f}" if each else ""]
+        row += [str(lines_in(CRATES / name / "src", ".rt"))]
+        row += [str(lines_in(CRATES / name / part, ".antt")) for part in ("specs", "proofs")]
+        print("| " + " | ".join(row) + " |")
+
+    print("\n## Must-fail edits\n")
+    print("| edit | what it would do | the checker's first words |")
+    print("|---|---|---|")
+    for name, label, _ in edits:
+        text = (CRATES / name / "must-fail" / f"{label}.edit").read_text()
+        says = text.splitlines()[0].removeprefix("# ")
+        words = first_words(name, label).replace("|", "\\|").replace("`", "")
+        print(f"| `{name}/{label}` | {says} | {words} |")
+
+
+main()
