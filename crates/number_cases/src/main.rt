@@ -5,8 +5,8 @@
 // and in front of them '@', a place and a blank where the reading starts elsewhere than at 0.
 ghost use Prim.Native.Nat.{_≤_, _<_};
 ghost use lib.ListN.{length};
+use lent::Writing;
 use numbers::Reading;
-use numbers::Writing;
 use refusal::Refusal;
 
 // The writer's room: two bytes more than the longest number takes.

@@ -1,5 +1,4 @@
 pub mod GroupByGroup
 pub mod WrittenGroups
-pub mod Lent
 pub mod RoundTrip
 pub mod OneEncoding

@@ -11,9 +11,10 @@ use borrow.Author.Tests.{lt-ltb, le-ltb, ne-eqb}
 use Rattle.numbers.specs.declared.Reading.{Reading}
 use Rattle.numbers.specs.declared.Reading.the-variants.{Number}
 use Rattle.numbers.specs.Read.{lastGroup, before, following, number, numberAt}
-use Rattle.numbers.specs.Write.{groups, groupsOf, written}
+use Rattle.numbers.specs.Write.{groups, groupsOf}
+use Rattle.lent.specs.Lent.{written}
 use Rattle.numbers.proofs.GroupByGroup.{capacity}
-use Rattle.numbers.proofs.Lent.{written-fits}
+use Rattle.lent.proofs.Laws.{written-fits}
 
 last-not-zero : (at n : ℕ) → 0 < n → lastGroup at n ≡ Number n (at + 1)
 unfolding lastGroup

@@ -4,18 +4,14 @@ ghost use mathlib.Core.Path.{_≡_};
 ghost use Prim.Native.Nat.{_+_, _≤_, _<_, _^_};
 ghost use lib.ListN.{length, take, drop};
 ghost use Rattle.numbers.specs.Read.{numberAt, following, before, lastGroup, valueOf};
-ghost use Rattle.numbers.specs.Write.{groupsOf, writing, written};
+ghost use Rattle.numbers.specs.Write.{groupsOf};
+ghost use Rattle.lent.specs.Lent.{writing, written};
+use lent::Writing;
 use refusal::Refusal;
 
 // What reading at a place finds: the number and the place after it, or why it is refused.
 pub enum Reading {
     Number { value: u32, next: usize },
-    Refused { refusal: Refusal },
-}
-
-// What writing answers: the count of bytes written, or why nothing was.
-pub enum Writing {
-    Wrote { count: usize },
     Refused { refusal: Refusal },
 }
 

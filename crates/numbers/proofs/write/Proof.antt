@@ -5,9 +5,9 @@ use mathlib.Core.List.{List, _++_}
 use native.Mathlib.Omega.{arith}
 use lib.ListN.{length, take, drop, length-take}
 use lib.Seq.{take-length}
-use Rattle.numbers.specs.declared.Writing.the-variants.{Wrote}
+use Rattle.lent.specs.declared.Writing.the-variants.{Wrote}
 use Rattle.numbers.specs.Write.{groupsOf}
-use Rattle.numbers.proofs.Lent.{writing-fits, written-fits, writing-short, written-short}
+use Rattle.lent.proofs.Laws.{writing-fits, written-fits, writing-short, written-short}
 use borrow.Author.Needs.{needs}
 use Rattle.numbers.proofs.write.Statement.{statement}
 use Rattle.numbers.proofs.write.Tie as tie
