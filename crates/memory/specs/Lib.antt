@@ -1,0 +1,4 @@
+pub mod Ends
+pub mod Memory
+pub mod Found
+pub mod Reach
