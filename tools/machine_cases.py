@@ -20,10 +20,13 @@ no such thread. ITEMS are the contents, oldest first, a blank before each.
     tools/machine_cases.py
 """
 
+import sys
 from pathlib import Path
 
+sys.dont_write_bytecode = True
+
 import model
-from model import Answer, Machine, Numbers, Refused
+from model import Machine, Numbers, Refused
 
 CRATE = Path(__file__).resolve().parent.parent / "crates" / "machine_cases"
 TOP = 2**32 - 1
@@ -326,7 +329,7 @@ def own_cases(c):
     c.evaluate(0, 31)
     c.run(0, "empty", steps=2)
     c.enter(4, 0, gives="future 32")
-    c.script("32 pending enqueues and dequeues in turn, then all at once: 64 letters would not fit, 32 do")
+    c.script("32 pending, E and D in turn, in one batch; a 33rd is refused 6, and 4 where a node is missing too")
     c.fresh(1, 17)
     c.defer(0, "ED" * 16)
     c.enter(4, 0, gives="refused 6")
@@ -1060,7 +1063,6 @@ def single_calls_with_pending(c):
     c.run(0, "item 5")
     c.holds(6)
     c.script("the answer that ends a batch's call is the result of the future named, not of the last")
-    c.fresh(1, 8)
     for named, wanted in ((0, "empty"), (1, "ok"), (2, "item 5")):
         c.fresh(1, 8)
         c.batch(0, "DED", 5, named=named)
@@ -1504,10 +1506,10 @@ def at_random(c, scripts=60):
     for number in range(scripts):
         numbers = Numbers(7000 + number)
         threads = 2 + numbers.below(3)
-        nodes = 4 + numbers.below(9)
+        nodes = 6 + numbers.below(7)
         c.script(f"random {number}")
         c.fresh(threads, nodes)
-        for _ in range(24 + numbers.below(16)):
+        for _ in range(20 + numbers.below(10)):
             c.enter(*model.some_entry(numbers, c.machine, 6))
         for t in range(threads):
             if c.following(t) != "idle":

@@ -333,6 +333,7 @@ class Machine:
         if thread.enqueues == 0:
             return
         excess = thread.excess
+        # the slip: zero "when dequeues outnumber enqueues only in the middle"
         if self.slip == "excess at the end" and thread.dequeues <= thread.enqueues:
             excess = 0
         tally = (thread.enqueues, thread.dequeues, excess)
@@ -898,17 +899,20 @@ class Numbers:
 def some_entry(numbers, machine, wild):
     """An entry that is likely to meet others in the middle of their calls. `wild` in 100 are entries
     of any kind, so that some are refused."""
-    t = numbers.below(len(machine.threads))
     v = 10 + numbers.below(90)
+    busy = [t for t, thread in enumerate(machine.threads) if thread.next != "idle"]
+    idle = [t for t, thread in enumerate(machine.threads) if thread.next == "idle"]
     if numbers.below(100) < wild:
         code = 1 + numbers.below(7)
         t = numbers.below(len(machine.threads) + 1)
         last = numbers.below(len(machine.futures) + 2) if code == 5 else v
-    elif machine.threads[t].next != "idle":
-        code = 7 if numbers.below(5) == 0 else 6
+    elif busy and (not idle or numbers.below(100) < 65):
+        t = numbers.one_of(busy)
+        code = numbers.one_of((6, 6, 7))
         last = numbers.below(5)
     else:
-        code = numbers.one_of((1, 1, 2, 3, 3, 3, 4, 4, 5, 5, 5))
+        t = numbers.one_of(idle)
+        code = numbers.one_of((1, 1, 2, 2, 3, 3, 3, 4, 4, 5, 5, 5, 5))
         last = v
         own = [f for f, future in enumerate(machine.futures) if future.owner == t]
         if code == 5 and not own:
@@ -992,6 +996,13 @@ SMALL = (
         8,
         [(1, 0, 10), (7, 0, 9), (4, 0), (4, 0)],
         [(5, 0, 0), (1, 1, 12), (2, 2)],
+    ),
+    (
+        "batch DE, batch E and Dequeue on one",
+        3,
+        8,
+        [(1, 0, 10), (7, 0, 9), (4, 0), (3, 0, 21), (3, 1, 31)],
+        [(5, 0, 0), (5, 1, 2), (2, 2)],
     ),
 )
 

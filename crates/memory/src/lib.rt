@@ -12,6 +12,7 @@ use tally::Tally;
 
 // The enqueue count stands beside the tail, the dequeue count beside the head; they are never mixed.
 pub struct EnqueueCount(pub u32);
+
 pub struct DequeueCount(pub u32);
 
 pub struct Tail {

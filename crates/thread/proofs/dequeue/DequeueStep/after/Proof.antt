@@ -1,0 +1,73 @@
+-- `thread::dequeue::DequeueStep::after` meets its contract, step by step.
+use Rattle.thread.specs.Dequeue.{dequeueAfter}
+use borrow.Author.Needs.{needs}
+use Rattle.thread.proofs.dequeue.DequeueStep.after.Statement.{statement}
+use Rattle.thread.proofs.dequeue.DequeueStep.after.Tie as tie
+
+-- src/dequeue.rt:39:41
+enum-told : tie.Need-enum-told
+enum-told c = search needs
+
+-- src/dequeue.rt:39:41
+head-requires : tie.Need-head-requires
+head-requires c κs = search needs
+
+-- src/dequeue.rt:39:32
+after-d1-requires : tie.Need-after-d1-requires
+after-d1-requires c κs = search needs
+
+-- src/dequeue.rt:40:29
+enum-known-self : tie.Need-enum-known-self
+enum-known-self c = search needs
+
+-- src/dequeue.rt:40:55
+link-requires : tie.Need-link-requires
+link-requires c κs = search needs
+
+-- src/dequeue.rt:40:39
+after-d2-requires : tie.Need-after-d2-requires
+after-d2-requires c κs = search needs
+
+-- src/dequeue.rt:41:32
+enum-known-self-2 : tie.Need-enum-known-self-2
+enum-known-self-2 c = search needs
+
+-- src/dequeue.rt:41:56
+taken-requires : tie.Need-taken-requires
+taken-requires c κs = search needs
+
+-- src/dequeue.rt:41:41
+after-d3-requires : tie.Need-after-d3-requires
+after-d3-requires c κs = search needs
+
+-- src/dequeue.rt:35:5
+returns : tie.Need-returns
+unfolding dequeueAfter
+returns c = simp (c .after-d1 .ensures, c .before .head .ensures, c .before .before .enum-told .given .1)
+
+-- src/dequeue.rt:35:5
+returns-2 : tie.Need-returns-2
+unfolding dequeueAfter
+returns-2 c = simp (c .after-d2 .ensures, c .before .link .ensures, c .before .before .before .self .given .1)
+
+-- src/dequeue.rt:35:5
+returns-3 : tie.Need-returns-3
+unfolding dequeueAfter
+returns-3 c = simp (c .after-d3 .ensures, c .before .taken .ensures, c .before .before .before .self2 .given .1)
+
+pub after-spec : {M : Type 1} → statement M
+after-spec =
+    tie.close
+    (tie.spec
+    enum-told
+    head-requires
+    after-d1-requires
+    enum-known-self
+    link-requires
+    after-d2-requires
+    enum-known-self-2
+    taken-requires
+    after-d3-requires
+    returns
+    returns-2
+    returns-3)

@@ -1,0 +1,23 @@
+-- `thread::dequeue::after_d1` meets its contract, by the head read.
+use borrow.Author.Needs.{needs}
+use Rattle.thread.proofs.dequeue.after_d1.Statement.{statement}
+use Rattle.thread.proofs.dequeue.after_d1.Tie as tie
+
+-- src/dequeue.rt:50:21
+enum-known-head : tie.Need-enum-known-head
+enum-known-head c = search needs
+
+-- src/dequeue.rt:51:25
+enum-known-head-2 : tie.Need-enum-known-head-2
+enum-known-head-2 c = search needs
+
+-- src/dequeue.rt:46:1
+returns : tie.Need-returns
+returns c = simp (c .before .head .given .1)
+
+-- src/dequeue.rt:46:1
+returns-2 : tie.Need-returns-2
+returns-2 c = simp (c .before .head2 .given .1)
+
+pub after-d1-spec : {M : Type 1} → statement M
+after-d1-spec = tie.close (tie.spec enum-known-head enum-known-head-2 returns returns-2)

@@ -1,0 +1,23 @@
+-- `thread::dequeue::after_d2` meets its contract, by the link read.
+use borrow.Author.Needs.{needs}
+use Rattle.thread.proofs.dequeue.after_d2.Statement.{statement}
+use Rattle.thread.proofs.dequeue.after_d2.Tie as tie
+
+-- src/dequeue.rt:59:23
+enum-told : tie.Need-enum-told
+enum-told c = search needs
+
+-- src/dequeue.rt:60:18
+enum-known-link : tie.Need-enum-known-link
+enum-known-link c = search needs
+
+-- src/dequeue.rt:55:1
+returns : tie.Need-returns
+returns c = search needs
+
+-- src/dequeue.rt:55:1
+returns-2 : tie.Need-returns-2
+returns-2 c = simp (c .before .link .given .1)
+
+pub after-d2-spec : {M : Type 1} → statement M
+after-d2-spec = tie.close (tie.spec enum-told enum-known-link returns returns-2)

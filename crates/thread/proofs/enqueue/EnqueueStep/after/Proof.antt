@@ -1,0 +1,90 @@
+-- `thread::enqueue::EnqueueStep::after` meets its contract, step by step.
+use Rattle.thread.specs.Enqueue.{enqueueAfter}
+use borrow.Author.Needs.{needs}
+use Rattle.thread.proofs.enqueue.EnqueueStep.after.Statement.{statement}
+use Rattle.thread.proofs.enqueue.EnqueueStep.after.Tie as tie
+
+-- src/enqueue.rt:49:79
+enum-told : tie.Need-enum-told
+enum-told c = search needs
+
+-- src/enqueue.rt:49:79
+tail-requires : tie.Need-tail-requires
+tail-requires c κs = search needs
+
+-- src/enqueue.rt:50:29
+enum-known-self : tie.Need-enum-known-self
+enum-known-self c = search needs
+
+-- src/enqueue.rt:50:59
+link-requires : tie.Need-link-requires
+link-requires c κs = search needs
+
+-- src/enqueue.rt:50:38
+after-e2-requires : tie.Need-after-e2-requires
+after-e2-requires c κs = search needs
+
+-- src/enqueue.rt:51:35
+enum-told-2 : tie.Need-enum-told-2
+enum-told-2 c = search needs
+
+-- src/enqueue.rt:52:29
+enum-known-self-2 : tie.Need-enum-known-self-2
+enum-known-self-2 c = search needs
+
+-- src/enqueue.rt:52:71
+head-requires : tie.Need-head-requires
+head-requires c κs = search needs
+
+-- src/enqueue.rt:52:44
+after-e4-requires : tie.Need-after-e4-requires
+after-e4-requires c κs = search needs
+
+-- src/enqueue.rt:53:69
+enum-told-3 : tie.Need-enum-told-3
+enum-told-3 c = search needs
+
+-- src/enqueue.rt:45:5
+returns : tie.Need-returns
+unfolding enqueueAfter
+returns c = simp (c .tail .ensures, c .before .enum-told .given .1)
+
+-- src/enqueue.rt:45:5
+returns-2 : tie.Need-returns-2
+unfolding enqueueAfter
+returns-2 c = simp (c .after-e2 .ensures, c .before .link .ensures, c .before .before .before .self .given .1)
+
+-- src/enqueue.rt:45:5
+returns-3 : tie.Need-returns-3
+unfolding enqueueAfter
+returns-3 c = simp (c .enum-told2 .given .1)
+
+-- src/enqueue.rt:45:5
+returns-4 : tie.Need-returns-4
+unfolding enqueueAfter
+returns-4 c = simp (c .after-e4 .ensures, c .before .head .ensures, c .before .before .before .self2 .given .1)
+
+-- src/enqueue.rt:45:5
+returns-5 : tie.Need-returns-5
+unfolding enqueueAfter
+returns-5 c = simp (c .enum-told3 .given .1)
+
+pub after-spec : {M : Type 1} → statement M
+after-spec =
+    tie.close
+    (tie.spec
+    enum-told
+    tail-requires
+    enum-known-self
+    link-requires
+    after-e2-requires
+    enum-told-2
+    enum-known-self-2
+    head-requires
+    after-e4-requires
+    enum-told-3
+    returns
+    returns-2
+    returns-3
+    returns-4
+    returns-5)

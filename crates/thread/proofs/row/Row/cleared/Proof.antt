@@ -1,0 +1,15 @@
+-- `thread::row::Row::cleared` meets its contract.
+use borrow.Author.Needs.{needs}
+use Rattle.thread.proofs.row.Row.cleared.Statement.{statement}
+use Rattle.thread.proofs.row.Row.cleared.Tie as tie
+
+-- src/row.rt:111:20
+none-requires : tie.Need-none-requires
+none-requires c κs = search needs
+
+-- src/row.rt:103:5
+returns : tie.Need-returns
+returns c = cc
+
+pub cleared-spec : {M : Type 1} → statement M
+cleared-spec = tie.close (tie.spec none-requires returns)

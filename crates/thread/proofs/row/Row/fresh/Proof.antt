@@ -1,0 +1,15 @@
+-- `thread::row::Row::fresh` meets its contract.
+use borrow.Author.Needs.{needs}
+use Rattle.thread.proofs.row.Row.fresh.Statement.{statement}
+use Rattle.thread.proofs.row.Row.fresh.Tie as tie
+
+-- src/row.rt:34:20
+none-requires : tie.Need-none-requires
+none-requires c κs = search needs
+
+-- src/row.rt:27:5
+returns : tie.Need-returns
+returns c = simp (c .none .ensures)
+
+pub fresh-spec : {M : Type 1} → statement M
+fresh-spec = tie.close (tie.spec none-requires returns)

@@ -1,0 +1,49 @@
+-- 01, "Steps", Dequeue; listing 2 (lines 16 to 21) with listing 3.
+use Prim.Native.Nat.{ℕ}
+use mathlib.Core.Bool.{Bool, true, false}
+use Rattle.memory.specs.declared.Front.{Front}
+use Rattle.memory.specs.declared.Head.{Head}
+use Rattle.memory.specs.declared.Head.the-variants.{Plain, Announced}
+use Rattle.memory.specs.declared.Link.{Link}
+use Rattle.memory.specs.declared.Link.the-variants.{None, To}
+use Rattle.memory.specs.declared.Access.{Access}
+use Rattle.memory.specs.declared.Access.the-variants.{ReadHead, ReadLink, CasHead}
+use Rattle.memory.specs.declared.Found.{Found}
+use Rattle.memory.specs.Ends.{pastFront}
+use Rattle.memory.specs.Found.{headIn, linkIn, takenIn}
+use Rattle.thread.specs.declared.Place.the-variants as place
+use Rattle.thread.specs.declared.Resume.the-variants as resume
+use Rattle.thread.specs.declared.After.{After}
+use Rattle.thread.specs.declared.After.the-variants as after
+use Rattle.thread.specs.declared.dequeue.DequeueStep.{DequeueStep}
+use Rattle.thread.specs.declared.dequeue.DequeueStep.the-variants.{D1, D2, D3}
+use Rattle.thread.specs.declared.running.RunStep.the-variants.{A1}
+
+-- d1 read head. d2 read next. d3 CAS head to it, count + 1.
+unfoldable pub dequeueAccess : DequeueStep → Access
+dequeueAccess D1 = ReadHead
+dequeueAccess (D2 f) = ReadLink (f .node)
+dequeueAccess (D3 f x) = CasHead (Plain f) (pastFront f x 1)
+
+abbrev pub dequeueAt : DequeueStep → After
+dequeueAt s = after.On (place.Dequeue s)
+
+-- d1 an announcement: run it, then d1
+abbrev pub afterD1 : Head → After
+afterD1 (Plain f) = dequeueAt (D2 f)
+afterD1 (Announced a) = after.On (place.Running a A1 resume.Dequeue)
+
+-- d2 none: ends empty
+abbrev pub afterD2 : Front → Link → After
+afterD2 f None = after.Empty
+afterD2 f (To x) = dequeueAt (D3 f x)
+
+-- d3 taken: ends with its item, else d1
+abbrev pub afterD3 : ℕ → Bool → After
+afterD3 x true = after.Item x
+afterD3 x false = dequeueAt D1
+
+unfoldable pub dequeueAfter : DequeueStep → Found → After
+dequeueAfter D1 y = afterD1 (headIn y)
+dequeueAfter (D2 f) y = afterD2 f (linkIn y)
+dequeueAfter (D3 f x) y = afterD3 x (takenIn y)
