@@ -133,7 +133,7 @@ fn after_a6(rise: u32, at: u16, left: u32, link: Link) -> RunStep
 }
 
 // After a5, where the old tail is known: how to find the new head.
-fn walk_to(request: Request, old: Tail) -> RunStep
+pub fn walk_to(request: Request, old: Tail) -> RunStep
     ensures { λ r. ⌜ r ≡ walkTo request old ⌝ }
 {
     let tally = request.tally;

@@ -1,0 +1,4 @@
+pub mod Answer
+pub mod Next
+pub mod Refusals
+pub mod Pairing

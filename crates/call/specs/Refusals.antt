@@ -1,0 +1,66 @@
+-- 01, "Refusal numbers", 1 to 8: when each is given. Order within an entry: 1, then 2 or 3, then 8, 4, 5, 6, 7.
+use Prim.Native.Nat.{ℕ}
+use mathlib.Core.Bool.{Bool, true, false, not, cond, _&&_}
+use lib.Dec.{eqb, ltb, leb}
+use Rattle.refusal.specs.declared.Refusal.the-variants.{NoSuchThread, InCall, NotInCall, NoNode, NoFuture, NoPendingPlace, NoAnnouncement}
+use Rattle.thread.specs.declared.Place.{Place}
+use Rattle.thread.specs.declared.row.Row.{Row}
+use Rattle.thread.specs.Place.{idle}
+use Rattle.call.specs.declared.answer.Verdict.{Verdict}
+use Rattle.call.specs.declared.answer.Verdict.the-variants.{Accepted, Refused}
+use Rattle.call.specs.declared.test.Used.{Used}
+use Rattle.call.specs.declared.test.Needs.{Needs}
+
+-- the first of two tests that refuses decides
+abbrev pub first : Verdict → Verdict → Verdict
+first Accepted w = w
+first (Refused r) w = Refused r
+
+-- 1: t is not below the thread count. 2: codes 1 to 5, and t is in a call.
+abbrev pub callable : ℕ → ℕ → Place → Verdict
+callable t threads p = cond (leb threads t) (Refused NoSuchThread) (cond (idle p) Accepted (Refused InCall))
+
+-- 1. 3: codes 6, 7, and t is idle.
+abbrev pub steppable : ℕ → ℕ → Place → Verdict
+steppable t threads p = cond (leb threads t) (Refused NoSuchThread) (cond (idle p) (Refused NotInCall) Accepted)
+
+-- 8: f was not handed out, or belongs to another thread
+abbrev pub foreign : ℕ → ℕ → ℕ → ℕ → Bool
+foreign f owner used t = cond (ltb f used) (not (eqb owner t)) true
+
+-- needed and none is left
+abbrev pub short : Bool → ℕ → ℕ → Bool
+short needed used all = needed && leb all used
+
+-- 4: a node is needed and none is left. 5: a future. 6: a pending place is needed and t has 32. 7: an announcement.
+abbrev pub lacking : Needs → Used → ℕ → ℕ → Verdict
+lacking n u nodes pending =
+    cond (short (n .node) (u .nodes) nodes) (Refused NoNode)
+    (cond (short (n .future) (u .futures) 512) (Refused NoFuture)
+    (cond (short (n .future) pending 32) (Refused NoPendingPlace)
+    (cond (short (n .announcement) (u .announcements) 64) (Refused NoAnnouncement)
+    Accepted)))
+
+abbrev pub some : ℕ → Bool
+some n = not (eqb n 0)
+
+-- Enqueue with nothing pending needs a node only; with pending calls it first adds itself as a deferred call, and sets off a batch with an enqueue
+abbrev pub enqueueNeeds : Row → Needs
+enqueueNeeds r = record { node = true; future = some (r .count); announcement = some (r .count) }
+
+-- Dequeue with nothing pending needs nothing; with pending calls a future and a place, and an announcement where an enqueue is pending
+abbrev pub dequeueNeeds : Row → Needs
+dequeueNeeds r = record { node = false; future = some (r .count); announcement = some (r .tally .enqueues) }
+
+abbrev pub futureEnqueueNeeds : Needs
+futureEnqueueNeeds = record { node = true; future = true; announcement = false }
+
+abbrev pub futureDequeueNeeds : Needs
+futureDequeueNeeds = record { node = false; future = true; announcement = false }
+
+-- Evaluate of a future that is not done sets off the batch
+abbrev pub evaluateNeeds : Row → Needs
+evaluateNeeds r = record { node = false; future = false; announcement = some (r .tally .enqueues) }
+
+abbrev pub callVerdict : ℕ → ℕ → Row → Used → ℕ → Needs → Verdict
+callVerdict t threads r u nodes n = first (callable t threads (r .place)) (lacking n u nodes (r .count))

@@ -1,0 +1,6 @@
+pub mod State
+pub mod HandOut
+pub mod Pairing
+pub mod Steps
+pub mod Entries
+pub mod Contents

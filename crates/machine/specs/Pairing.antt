@@ -1,0 +1,55 @@
+-- Pairing of results with futures: listings 6 and 8 of 002, in the step that ends the call.
+use Prim.Native.Nat.{ℕ, zero, suc, _+_, _%_}
+use mathlib.Core.List.{List}
+use lib.ListN.{getD, set}
+use Rattle.memory.specs.declared.Cell.{Cell}
+use Rattle.memory.specs.Memory.{cellAt}
+use Rattle.thread.specs.Row.{cleared}
+use Rattle.call.specs.declared.answer.Item.{Item}
+use Rattle.call.specs.declared.answer.Outcome.{Outcome}
+use Rattle.call.specs.declared.answer.Outcome.the-variants as outcome
+use Rattle.call.specs.declared.answer.Future.{Future}
+use Rattle.machine.specs.declared.Told.{Told}
+use Rattle.machine.specs.declared.Machine.{Machine}
+use Rattle.call.specs.declared.pairing.Cursor.{Cursor}
+use Rattle.call.specs.declared.pairing.Paid.{Paid}
+use Rattle.call.specs.declared.pairing.Around.{Around}
+use Rattle.call.specs.Answer.{answered}
+use Rattle.call.specs.Pairing.{nodeBehind, nextOf, pay}
+use Rattle.machine.specs.State.{rowAt, withRow, withFutures, noItem, noFuture}
+
+-- what a turn reads: links and items as they are, the batch's last node
+abbrev pub around : List Cell → List Item → ℕ → Cursor → Around
+around links items last c = record {
+  behind = cellAt links (c .at) .link;
+  node = nodeBehind (cellAt links (c .at) .link) (c .at);
+  item = getD items (nodeBehind (cellAt links (c .at) .link) (c .at) % 512) noItem;
+  «behind_next» = cellAt links (nextOf (c .supply)) .link;
+  last = last;
+}
+
+abbrev pub done : Future → Outcome → Future
+done f o = record { owner = f .owner; enqueue = f .enqueue; outcome = o }
+
+-- the call of one future
+abbrev pub paidTo : List Cell → List Item → ℕ → Cursor → Future → Paid
+paidTo links items last c f = pay (c .at) (c .supply) (f .enqueue) (around links items last c)
+
+-- the futures of n pending calls from the k-th on become done, in calling order
+unfoldable pub pairFrom : ℕ → List Cell → List Item → ℕ → List ℕ → ℕ → List Future → Cursor → List Future
+pairFrom zero links items last pending k fs c = fs
+pairFrom (suc n) links items last pending k fs c =
+    pairFrom n links items last pending (k + 1)
+    (set fs (getD pending (k % 32) 0 % 512) (done (getD fs (getD pending (k % 32) 0 % 512) noFuture) (paidTo links items last c (getD fs (getD pending (k % 32) 0 % 512) noFuture) .outcome)))
+    (paidTo links items last c (getD fs (getD pending (k % 32) 0 % 512) noFuture) .cursor)
+
+abbrev pub pairing : Machine → ℕ → Cursor → Machine
+pairing m i c = withFutures m (pairFrom (rowAt m i .count % 33) (m .links) (m .items) (rowAt m i .last) (rowAt m i .pending) 0 (m .futures) c)
+
+-- the end of a batch's call: its futures are done, the pending list and the tally cleared, the answer that of the future that was asked for
+abbrev pub settled : Machine → ℕ → ℕ → Cursor → Told
+settled m i steps c = record {
+  machine = withRow (pairing m i c) i (cleared (rowAt m i));
+  answer = answered (getD (pairing m i c .futures) (rowAt m i .future % 512) noFuture .outcome);
+  steps = steps;
+}

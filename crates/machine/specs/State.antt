@@ -1,0 +1,93 @@
+-- 01, "What the machine is": the machine's parts, the fresh machine, and set-up with refusal 9.
+use Prim.Native.Nat.{ℕ}
+use mathlib.Core.Bool.{false, cond, _||_}
+use mathlib.Core.List.{List}
+use lib.Dec.{ltb}
+use lib.ListN.{getD, set, replicate}
+use Rattle.refusal.specs.declared.Refusal.the-variants.{SetupOutOfRange}
+use Rattle.memory.specs.declared.Head.the-variants.{Plain}
+use Rattle.memory.specs.Memory.{Memory, noCell, noFront, noAnnouncement}
+use Rattle.memory.specs.Found.{noTail}
+use Rattle.thread.specs.declared.row.Row.{Row}
+use Rattle.thread.specs.Row.{freshRow}
+use Rattle.call.specs.declared.answer.Item.{Item}
+use Rattle.call.specs.declared.answer.Future.{Future}
+use Rattle.call.specs.declared.answer.Outcome.the-variants.{Waiting}
+use Rattle.call.specs.declared.answer.Verdict.{Verdict}
+use Rattle.call.specs.declared.answer.Verdict.the-variants.{Accepted, Refused}
+use Rattle.machine.specs.declared.Machine.{Machine}
+use Rattle.machine.specs.declared.SetUp.{SetUp}
+
+abbrev pub noItem : Item
+noItem = record { value = 0 }
+
+abbrev pub noFuture : Future
+noFuture = record { owner = 0; enqueue = false; outcome = Waiting }
+
+-- a fresh machine has one dummy node, number 0, at which head and tail point, both counts zero; every thread is idle and has nothing pending
+abbrev pub freshMachine : ℕ → ℕ → Machine
+freshMachine threads nodes = record {
+  ends = record { head = Plain noFront; tail = noTail };
+  links = replicate 512 noCell;
+  announcements = replicate 64 noAnnouncement;
+  items = replicate 512 noItem;
+  futures = replicate 512 noFuture;
+  rows = replicate 8 freshRow;
+  threads = threads;
+  nodes = nodes;
+  used = record { nodes = 1; futures = 0; announcements = 0 };
+}
+
+-- 1 to 8 threads; 2 to 512 nodes, the dummy among them
+abbrev pub inRange : ℕ → ℕ → Verdict
+inRange threads nodes = cond (ltb threads 1 || ltb 8 threads || ltb nodes 2 || ltb 512 nodes) (Refused SetupOutOfRange) Accepted
+
+abbrev pub setUp : ℕ → ℕ → SetUp
+setUp threads nodes = record { verdict = inRange threads nodes; machine = freshMachine threads nodes }
+
+-- the cells that steps access
+abbrev pub memoryOf : Machine → Memory
+memoryOf m = record { ends = m .ends; links = m .links; announcements = m .announcements }
+
+abbrev pub withMemory : Machine → Memory → Machine
+withMemory m x = record {
+  ends = x .ends;
+  links = x .links;
+  announcements = x .announcements;
+  items = m .items;
+  futures = m .futures;
+  rows = m .rows;
+  threads = m .threads;
+  nodes = m .nodes;
+  used = m .used;
+}
+
+-- a thread's row; its place among the rows is its number
+abbrev pub rowAt : Machine → ℕ → Row
+rowAt m i = getD (m .rows) i freshRow
+
+abbrev pub withRow : Machine → ℕ → Row → Machine
+withRow m i r = record {
+  ends = m .ends;
+  links = m .links;
+  announcements = m .announcements;
+  items = m .items;
+  futures = m .futures;
+  rows = set (m .rows) i r;
+  threads = m .threads;
+  nodes = m .nodes;
+  used = m .used;
+}
+
+abbrev pub withFutures : Machine → List Future → Machine
+withFutures m fs = record {
+  ends = m .ends;
+  links = m .links;
+  announcements = m .announcements;
+  items = m .items;
+  futures = fs;
+  rows = m .rows;
+  threads = m .threads;
+  nodes = m .nodes;
+  used = m .used;
+}

@@ -1,0 +1,155 @@
+// The machine of 01: threads, nodes, futures and announcements, advanced by entries. Each entry takes the
+// machine and hands back the machine and one answer; none can fail, and a refused one changes nothing.
+//
+// Numbers that the machine holds are plain numbers, so the code stays defined for every machine: an index
+// is taken by its remainder, a count goes up with wrap and down to 0. No machine that entries reach from
+// fresh meets one of these.
+pub mod contents;
+pub mod engine;
+pub mod entry;
+pub mod hand_out;
+pub mod pairing;
+
+ghost use mathlib.Core.Path.{_≡_};
+ghost use Rattle.machine.specs.State.{freshMachine, setUp, withRow};
+ghost use Prim.Native.Nat.{_<_};
+use call::answer::Answer;
+use call::answer::Future;
+use call::answer::Item;
+use call::answer::Outcome;
+use call::answer::Verdict;
+use call::test::Used;
+use memory::Announcement;
+use memory::Cell;
+use memory::DequeueCount;
+use memory::Ends;
+use memory::EnqueueCount;
+use memory::Front;
+use memory::Head;
+use memory::Link;
+use memory::OldTail;
+use memory::Request;
+use memory::Tail;
+use refusal::Refusal;
+use tally::Tally;
+use thread::row::Row;
+
+// `links` and `items` by node, `announcements` and `futures` by their numbers, `rows` by thread. `threads`
+// and `nodes` are the numbers of the set-up.
+pub struct Machine {
+    pub ends: Ends,
+    pub links: [Cell; 512],
+    pub announcements: [Announcement; 64],
+    pub items: [Item; 512],
+    pub futures: [Future; 512],
+    pub rows: [Row; 8],
+    pub threads: u32,
+    pub nodes: u32,
+    pub used: Used,
+}
+
+// What set-up answers; the machine counts only where it is accepted.
+pub struct SetUp {
+    pub verdict: Verdict,
+    pub machine: Machine,
+}
+
+// The machine after an entry, its answer, and the steps that it took.
+pub struct Told {
+    pub machine: Machine,
+    pub answer: Answer,
+    pub steps: u32,
+}
+
+impl Machine {
+    pub const THREADS: u32 = 8;
+
+    pub const NODES: u32 = 512;
+
+    pub const FUTURES: u32 = 512;
+
+    pub const ANNOUNCEMENTS: u32 = 64;
+
+    pub const PENDING: u32 = 32;
+
+    // One dummy node, number 0, at which head and tail point; both counts zero; every thread idle, with
+    // nothing pending.
+    pub fn fresh(threads: u32, nodes: u32) -> Machine
+        ensures { λ r. ⌜ r ≡ freshMachine threads nodes ⌝ }
+    {
+        let front = Front {
+            node: 0,
+            count: DequeueCount(0),
+        };
+        let tail = Tail {
+            node: 0,
+            count: EnqueueCount(0),
+        };
+        let unused = Announcement {
+            request: Request {
+                first: 0,
+                last: 0,
+                tally: Tally::none(),
+                old_head: front,
+            },
+            old_tail: OldTail::Unset,
+        };
+        let nothing = Future {
+            owner: 0,
+            enqueue: false,
+            outcome: Outcome::Waiting,
+        };
+        Machine {
+            ends: Ends {
+                head: Head::Plain(front),
+                tail,
+            },
+            links: [Cell { link: Link::None }; 512],
+            announcements: [unused; 64],
+            items: [Item { value: 0 }; 512],
+            futures: [nothing; 512],
+            rows: [Row::fresh(); 8],
+            threads,
+            nodes,
+            used: Used {
+                nodes: 1,
+                futures: 0,
+                announcements: 0,
+            },
+        }
+    }
+
+    // A fresh machine for 1 to 8 threads and 2 to 512 nodes. Refused: SetupOutOfRange.
+    pub fn set_up(threads: u32, nodes: u32) -> SetUp
+        ensures { λ r. ⌜ r ≡ setUp threads nodes ⌝ }
+    {
+        SetUp {
+            verdict: in_range(threads, nodes),
+            machine: Machine::fresh(threads, nodes),
+        }
+    }
+
+    pub(crate) fn with_row(mut self, thread: usize, row: Row) -> Machine
+        requires { ⌜ thread < 8 ⌝ }
+        ensures { λ r. ⌜ r ≡ withRow self thread row ⌝ }
+    {
+        self.rows[thread] = row;
+        self
+    }
+}
+
+fn in_range(threads: u32, nodes: u32) -> Verdict {
+    if threads < 1 {
+        return Verdict::Refused(Refusal::SetupOutOfRange);
+    }
+    if Machine::THREADS < threads {
+        return Verdict::Refused(Refusal::SetupOutOfRange);
+    }
+    if nodes < 2 {
+        return Verdict::Refused(Refusal::SetupOutOfRange);
+    }
+    if Machine::NODES < nodes {
+        return Verdict::Refused(Refusal::SetupOutOfRange);
+    }
+    Verdict::Accepted
+}
