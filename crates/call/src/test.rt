@@ -1,7 +1,7 @@
 // The tests of 01's refusal table, 1 to 8, in its order. Nothing has changed when one is given.
 ghost use mathlib.Core.Path.{_≡_};
 ghost use Rattle.call.specs.Next.{nextNode, nextFuture, nextAnnouncement};
-ghost use Rattle.call.specs.Refusals.{short, lacking, callable, steppable, enqueueNeeds, dequeueNeeds, evaluateNeeds, foreign, callVerdict};
+ghost use Rattle.call.specs.Refusals.{short, lacking, callable, steppable, foreign, callVerdict};
 use crate::answer::Verdict;
 use refusal::Refusal;
 use thread::Place;
@@ -111,39 +111,6 @@ pub fn foreign(future: u32, owner: u8, used: u32, thread: u32) -> bool
         return owner as u32 != thread;
     }
     true
-}
-
-// With pending calls Enqueue and Dequeue are a deferred call and then Evaluate of it.
-pub fn enqueue_needs(row: Row) -> Needs
-    ensures { λ r. ⌜ r ≡ enqueueNeeds row ⌝ }
-{
-    Needs {
-        node: true,
-        future: row.count != 0,
-        announcement: row.count != 0,
-    }
-}
-
-pub fn dequeue_needs(row: Row) -> Needs
-    ensures { λ r. ⌜ r ≡ dequeueNeeds row ⌝ }
-{
-    let tally = row.tally;
-    Needs {
-        node: false,
-        future: row.count != 0,
-        announcement: tally.enqueues != 0,
-    }
-}
-
-pub fn evaluate_needs(row: Row) -> Needs
-    ensures { λ r. ⌜ r ≡ evaluateNeeds row ⌝ }
-{
-    let tally = row.tally;
-    Needs {
-        node: false,
-        future: false,
-        announcement: tally.enqueues != 0,
-    }
 }
 
 // An entry that begins or defers a call: 1, 2, then 4 to 7.

@@ -39,12 +39,12 @@ refusing m r = record { machine = m; answer = answer.Refused r; steps = 0 }
 abbrev pub telling : Machine → Answer → Told
 telling m a = record { machine = m; answer = a; steps = 0 }
 
-abbrev pub decided : Verdict → Machine → Told → Told
+unfoldable pub decided : Verdict → Machine → Told → Told
 decided Accepted m accepted = accepted
 decided (Refused r) m accepted = refusing m r
 
 -- a pending enqueue's node stands behind the one before it, where there is one
-abbrev pub linkedBehind : Machine → Row → ℕ → Machine
+unfoldable pub linkedBehind : Machine → Row → ℕ → Machine
 linkedBehind m r n = record {
   ends = m .ends;
   links = cond (eqb (r .tally .enqueues) 0) (m .links) (set (m .links) (r .last % 512) (record { link = To n }));
@@ -58,29 +58,29 @@ linkedBehind m r n = record {
 }
 
 -- a deferred call: a node where needed, a future, a pending place. i is the thread's number.
-abbrev pub deferEnqueue : Machine → ℕ → Item → Machine
+unfoldable pub deferEnqueue : Machine → ℕ → Item → Machine
 deferEnqueue m i v =
     withRow (handOutFuture (linkedBehind (handOutNode m v) (rowAt m i) (nextNode (m .used))) i true) i
     (withEnqueue (rowAt m i) (nextFuture (m .used)) (nextNode (m .used)))
 
-abbrev pub deferDequeue : Machine → ℕ → Machine
+unfoldable pub deferDequeue : Machine → ℕ → Machine
 deferDequeue m i = withRow (handOutFuture m i false) i (withDequeue (rowAt m i) (nextFuture (m .used)))
 
 -- the pending calls are set off as one batch, whose answer will be the result of the future f; one with an enqueue is handed its announcement
-abbrev pub setOff : Machine → ℕ → ℕ → Machine
+unfoldable pub setOff : Machine → ℕ → ℕ → Machine
 setOff m i f =
     cond (eqb (rowAt m i .tally .enqueues) 0)
     (withRow m i (calling (rowAt m i) (place.Dequeues Q1) f))
     (withRow (handOutAnnouncement m (request (rowAt m i))) i (calling (rowAt m i) (place.Batch (nextAnnouncement (m .used)) B1) f))
 
 -- with pending calls, Enqueue and Dequeue first add themselves as a deferred call, then act as Evaluate of it
-abbrev pub startEnqueue : Machine → ℕ → Item → Machine
+unfoldable pub startEnqueue : Machine → ℕ → Item → Machine
 startEnqueue m i v =
     cond (eqb (rowAt m i .count) 0)
     (withRow (handOutNode m v) i (placed (rowAt m i) (place.Enqueue (nextNode (m .used)) E1)))
     (setOff (deferEnqueue m i v) i (nextFuture (m .used)))
 
-abbrev pub startDequeue : Machine → ℕ → Machine
+unfoldable pub startDequeue : Machine → ℕ → Machine
 startDequeue m i =
     cond (eqb (rowAt m i .count) 0)
     (withRow m i (placed (rowAt m i) (place.Dequeue D1)))
@@ -107,18 +107,18 @@ unfoldable pub futureDequeue : Machine → ℕ → Told
 futureDequeue m t = calls m t futureDequeueNeeds (telling (deferDequeue m (t % 8)) (answer.Future (nextFuture (m .used))))
 
 -- code 5, Evaluate t f: the result where f is done, else started
-abbrev pub evaluateWaiting : Machine → ℕ → ℕ → Told
+unfoldable pub evaluateWaiting : Machine → ℕ → ℕ → Told
 evaluateWaiting m i f =
     decided (lacking (evaluateNeeds (rowAt m i)) (m .used) (m .nodes) (rowAt m i .count)) m
     (telling (setOff m i f) answer.Started)
 
-abbrev pub evaluateOwn : Machine → ℕ → ℕ → Outcome → Told
+unfoldable pub evaluateOwn : Machine → ℕ → ℕ → Outcome → Told
 evaluateOwn m i f outcome.Waiting = evaluateWaiting m i f
 evaluateOwn m i f outcome.Ok = telling m answer.Ok
 evaluateOwn m i f (outcome.Item v) = telling m (answer.Item v)
 evaluateOwn m i f outcome.Empty = telling m answer.Empty
 
-abbrev pub evaluateKnown : Machine → ℕ → ℕ → Future → Told
+unfoldable pub evaluateKnown : Machine → ℕ → ℕ → Future → Told
 evaluateKnown m t f x =
     cond (foreign f (x .owner) (m .used .futures) t) (refusing m NotOwnFuture)
     (evaluateOwn m (t % 8) (f % 512) (x .outcome))

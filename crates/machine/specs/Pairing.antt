@@ -43,11 +43,11 @@ pairFrom (suc n) links items last pending k fs c =
     (set fs (getD pending (k % 32) 0 % 512) (done (getD fs (getD pending (k % 32) 0 % 512) noFuture) (paidTo links items last c (getD fs (getD pending (k % 32) 0 % 512) noFuture) .outcome)))
     (paidTo links items last c (getD fs (getD pending (k % 32) 0 % 512) noFuture) .cursor)
 
-abbrev pub pairing : Machine → ℕ → Cursor → Machine
+unfoldable pub pairing : Machine → ℕ → Cursor → Machine
 pairing m i c = withFutures m (pairFrom (rowAt m i .count % 33) (m .links) (m .items) (rowAt m i .last) (rowAt m i .pending) 0 (m .futures) c)
 
 -- the end of a batch's call: its futures are done, the pending list and the tally cleared, the answer that of the future that was asked for
-abbrev pub settled : Machine → ℕ → ℕ → Cursor → Told
+unfoldable pub settled : Machine → ℕ → ℕ → Cursor → Told
 settled m i steps c = record {
   machine = withRow (pairing m i c) i (cleared (rowAt m i));
   answer = answered (getD (pairing m i c .futures) (rowAt m i .future % 512) noFuture .outcome);

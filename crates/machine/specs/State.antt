@@ -9,7 +9,7 @@ use Rattle.memory.specs.declared.Head.the-variants.{Plain}
 use Rattle.memory.specs.Memory.{Memory, noCell, noFront, noAnnouncement}
 use Rattle.memory.specs.Found.{noTail}
 use Rattle.thread.specs.declared.row.Row.{Row}
-use Rattle.thread.specs.Row.{freshRow}
+use Rattle.thread.specs.Row.{freshRow, noRow}
 use Rattle.call.specs.declared.answer.Item.{Item}
 use Rattle.call.specs.declared.answer.Future.{Future}
 use Rattle.call.specs.declared.answer.Outcome.the-variants.{Waiting}
@@ -64,7 +64,7 @@ withMemory m x = record {
 
 -- a thread's row; its place among the rows is its number
 abbrev pub rowAt : Machine → ℕ → Row
-rowAt m i = getD (m .rows) i freshRow
+rowAt m i = getD (m .rows) i noRow
 
 abbrev pub withRow : Machine → ℕ → Row → Machine
 withRow m i r = record {

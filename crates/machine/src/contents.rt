@@ -24,7 +24,7 @@ impl Machine {
         let mut at = from;
         let mut left = links;
         while 0 < left {
-            let cell = self.links[at as usize % 512];
+            let cell = self.links[(at % 512) as usize];
             let link = cell.link;
             at = node_behind(link, at);
             left -= 1;
@@ -63,7 +63,7 @@ impl Machine {
             OldTail::Unset => {
                 let ends = self.ends;
                 let tail = ends.tail;
-                let cell = self.links[tail.node as usize % 512];
+                let cell = self.links[(tail.node % 512) as usize];
                 let link = cell.link;
                 if leads_to(link, request.first) {
                     return self.head_to_be(request, tail);
@@ -81,7 +81,7 @@ impl Machine {
         match head {
             Head::Plain(front) => front.node,
             Head::Announced(a) => {
-                let announcement = self.announcements[a as usize % 64];
+                let announcement = self.announcements[(a % 64) as usize];
                 self.announced_head(announcement)
             }
         }
@@ -105,7 +105,7 @@ impl Machine {
         let mut at = node;
         let mut count: usize = 0;
         while count < 512 {
-            let cell = self.links[at as usize % 512];
+            let cell = self.links[(at % 512) as usize];
             let link = cell.link;
             match link {
                 Link::None => {
@@ -120,29 +120,20 @@ impl Machine {
         count
     }
 
-    // Writes the items of the nodes behind a node at the start of `out`, which has room for them.
-    fn items_after(self, node: u16, out: &mut [u32])
-        requires { ⌜ length (chainAfter 512 (self .links) node) ≤ length (now out) ⌝ }
+    // Writes the items of the `count` nodes behind a node at the start of `out`, which has room for them.
+    fn write_items(self, node: u16, count: usize, out: &mut [u32])
+        requires { ⌜ (count ≡ length (itemsAfter self node)) × (count ≤ length (now out)) ⌝ }
         ensures { λ _. ⌜ now (out .exit) ≡ written (itemsAfter self node) (now (out .entry)) ⌝ }
     {
         let mut at = node;
-        let mut count: usize = 0;
-        while count < 512 {
-            let cell = self.links[at as usize % 512];
+        let mut i: usize = 0;
+        while i < count {
+            let cell = self.links[(at % 512) as usize];
             let link = cell.link;
-            match link {
-                Link::None => {
-                    return;
-                }
-                Link::To(next) => {
-                    at = next;
-                }
-            }
-            let item = self.items[at as usize % 512];
-            if count < out.len() {
-                out[count] = item.value;
-            }
-            count += 1;
+            at = node_behind(link, at);
+            let item = self.items[(at % 512) as usize];
+            out[i] = item.value;
+            i += 1;
         }
     }
 
@@ -158,7 +149,7 @@ impl Machine {
                 refusal: Refusal::NoRoom,
             };
         }
-        self.items_after(head, out);
+        self.write_items(head, count, out);
         Writing::Wrote { count }
     }
 
@@ -177,7 +168,7 @@ impl Machine {
                 less(enqueues.0, dequeues.0)
             }
             Head::Announced(a) => {
-                let announcement = self.announcements[a as usize % 64];
+                let announcement = self.announcements[(a % 64) as usize];
                 let request = announcement.request;
                 let front = request.old_head;
                 let dequeues = front.count;

@@ -96,7 +96,7 @@ impl Machine {
                 steps,
             },
             After::Item(node) => {
-                let n = node as usize % 512;
+                let n = (node % 512) as usize;
                 let item = self.items[n];
                 Told {
                     machine: self,

@@ -79,7 +79,7 @@ impl Machine {
         let node = used.next_node();
         let with_node = self.hand_out_node(item);
         let linked = with_node.linked_behind(row, node);
-        let with_future = linked.hand_out_future((at % 8) as u8, true);
+        let with_future = linked.hand_out_future(at as u8, true);
         with_future.with_row(at, row.with_enqueue(used.next_future(), node))
     }
 
@@ -90,7 +90,7 @@ impl Machine {
     {
         let row = self.rows[at];
         let used = self.used;
-        let with_future = self.hand_out_future((at % 8) as u8, false);
+        let with_future = self.hand_out_future(at as u8, false);
         with_future.with_row(at, row.with_dequeue(used.next_future()))
     }
 
@@ -161,12 +161,13 @@ impl Machine {
     {
         let row = self.rows[at];
         let used = self.used;
-        let verdict = call::test::lacking(
-            call::test::evaluate_needs(row),
-            used,
-            self.nodes,
-            row.count,
-        );
+        let tally = row.tally;
+        let needs = Needs {
+            node: false,
+            future: false,
+            announcement: tally.enqueues != 0,
+        };
+        let verdict = call::test::lacking(needs, used, self.nodes, row.count);
         match verdict {
             Verdict::Refused(refusal) => refusing(self, refusal),
             Verdict::Accepted => telling(self.set_off(at, future), Answer::Started),
@@ -183,7 +184,11 @@ impl Machine {
         let at = (thread % 8) as usize;
         let row = self.rows[at];
         let used = self.used;
-        let needs = call::test::enqueue_needs(row);
+        let needs = Needs {
+            node: true,
+            future: row.count != 0,
+            announcement: row.count != 0,
+        };
         let verdict = call::test::call_verdict(thread, self.threads, row, used, self.nodes, needs);
         match verdict {
             Verdict::Refused(refusal) => refusing(self, refusal),
@@ -200,8 +205,13 @@ impl Machine {
     {
         let at = (thread % 8) as usize;
         let row = self.rows[at];
+        let tally = row.tally;
         let used = self.used;
-        let needs = call::test::dequeue_needs(row);
+        let needs = Needs {
+            node: false,
+            future: row.count != 0,
+            announcement: tally.enqueues != 0,
+        };
         let verdict = call::test::call_verdict(thread, self.threads, row, used, self.nodes, needs);
         match verdict {
             Verdict::Refused(refusal) => refusing(self, refusal),

@@ -11,7 +11,7 @@ pub mod hand_out;
 pub mod pairing;
 
 ghost use mathlib.Core.Path.{_≡_};
-ghost use Rattle.machine.specs.State.{freshMachine, setUp, withRow};
+ghost use Rattle.machine.specs.State.{freshMachine, inRange, setUp, withRow};
 ghost use Prim.Native.Nat.{_<_};
 use call::answer::Answer;
 use call::answer::Future;
@@ -138,7 +138,9 @@ impl Machine {
     }
 }
 
-fn in_range(threads: u32, nodes: u32) -> Verdict {
+fn in_range(threads: u32, nodes: u32) -> Verdict
+    ensures { λ r. ⌜ r ≡ inRange threads nodes ⌝ }
+{
     if threads < 1 {
         return Verdict::Refused(Refusal::SetupOutOfRange);
     }

@@ -21,14 +21,14 @@ impl Machine {
         let mut k: u32 = 0;
         while k < count {
             let place = (k % 32) as usize;
-            let future = pending[place] as usize % 512;
+            let future = (pending[place] % 512) as usize;
             let x = self.futures[future];
             let head = cursor.at;
-            let cell = self.links[head as usize % 512];
+            let cell = self.links[(head % 512) as usize];
             let behind = cell.link;
             let node = call::pairing::node_behind(behind, head);
-            let item = self.items[node as usize % 512];
-            let next = self.links[cursor.next_node() as usize % 512];
+            let item = self.items[(node % 512) as usize];
+            let next = self.links[(cursor.next_node() % 512) as usize];
             let behind_next = next.link;
             let around = Around {
                 behind,
@@ -39,11 +39,12 @@ impl Machine {
             };
             let paid = cursor.pay(x.enqueue, around);
             let outcome = paid.outcome;
-            self.futures[future] = Future {
+            let done = Future {
                 owner: x.owner,
                 enqueue: x.enqueue,
                 outcome,
             };
+            self.futures[future] = done;
             let behind_it = paid.cursor;
             cursor = behind_it;
             k += 1;
@@ -58,7 +59,7 @@ impl Machine {
     {
         let row = self.rows[at];
         let paired = self.pair(at, start);
-        let asked = row.future as usize % 512;
+        let asked = (row.future % 512) as usize;
         let x = paired.futures[asked];
         let outcome = x.outcome;
         Told {

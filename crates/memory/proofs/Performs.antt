@@ -1,8 +1,7 @@
 -- An access made on the cells that it reaches, and the cells put back, is the access of the whole memory.
-use Prim.Native.Nat.{ℕ, _%_}
+use Prim.Native.Nat.{ℕ}
 use mathlib.Core.Path.{_≡_}
 use mathlib.Core.Bool.{Bool, true, false}
-use lib.ListN.{getD, set}
 use lib.Seq.{set-getD}
 use Rattle.memory.specs.declared.Tail.{Tail}
 use Rattle.memory.specs.declared.Front.{Front}

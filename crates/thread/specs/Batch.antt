@@ -1,7 +1,6 @@
 -- 01, "Steps", Batch with an enqueue; listing 4 (lines 31 to 35) with listing 3. The own announcement is own.
 use Prim.Native.Nat.{ℕ}
 use mathlib.Core.Bool.{Bool, true, false}
-use Rattle.memory.specs.declared.Front.{Front}
 use Rattle.memory.specs.declared.Head.{Head}
 use Rattle.memory.specs.declared.Head.the-variants.{Plain, Announced}
 use Rattle.memory.specs.declared.Access.{Access}

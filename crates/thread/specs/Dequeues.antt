@@ -2,7 +2,6 @@
 use Prim.Native.Nat.{ℕ}
 use mathlib.Core.Bool.{Bool, true, false, cond}
 use lib.Dec.{eqb, ltb}
-use Rattle.memory.specs.declared.Front.{Front}
 use Rattle.memory.specs.declared.Head.{Head}
 use Rattle.memory.specs.declared.Head.the-variants.{Plain, Announced}
 use Rattle.memory.specs.declared.Link.{Link}

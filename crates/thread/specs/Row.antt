@@ -1,6 +1,7 @@
 -- One thread's row. 01, "Entries": a deferred call takes a pending place and is kept up in the tally; the step that ends a batch clears both.
 use Prim.Native.Nat.{ℕ, _%_}
 use mathlib.Core.Bool.{cond}
+use mathlib.Core.List.{[]}
 use lib.Dec.{eqb}
 use lib.ListN.{set, replicate}
 use Rattle.tally.specs.Tally.{nothingPending, up}
@@ -13,6 +14,10 @@ use Rattle.thread.specs.declared.row.Row.{Row}
 
 abbrev pub freshRow : Row
 freshRow = record { place = Idle; pending = replicate 32 0; count = 0; tally = nothingPending; first = 0; last = 0; future = 0 }
+
+-- what stands past the end of the rows; no thread number leads there
+abbrev pub noRow : Row
+noRow = record { place = Idle; pending = []; count = 0; tally = nothingPending; first = 0; last = 0; future = 0 }
 
 abbrev pub placed : Row → Place → Row
 placed r p = record { place = p; pending = r .pending; count = r .count; tally = r .tally; first = r .first; last = r .last; future = r .future }

@@ -1,0 +1,6 @@
+pub mod Hops
+pub mod Runs
+pub mod Starts
+pub mod Pairs
+pub mod Chains
+pub mod Heads

@@ -1,0 +1,85 @@
+-- `machine::Machine::tell` meets its contract, by how the call goes on.
+use borrow.Author.Needs.{needs}
+use Rattle.machine.proofs.Machine.tell.Statement.{statement}
+use Rattle.machine.proofs.Machine.tell.Tie as tie
+
+enum-told : tie.Need-enum-told
+enum-told c = search needs
+
+enum-told-2 : tie.Need-enum-told-2
+enum-told-2 c = search needs
+
+enum-told-3 : tie.Need-enum-told-3
+enum-told-3 c = search needs
+
+enum-known-after : tie.Need-enum-known-after
+enum-known-after c = search needs
+
+cast-n : tie.Need-cast-n
+cast-n c = search needs
+
+mul-item : tie.Need-mul-item
+mul-item c = search needs
+
+element-copy-out-item : tie.Need-element-copy-out-item
+element-copy-out-item c = search needs
+
+enum-known-after-2 : tie.Need-enum-known-after-2
+enum-known-after-2 c = search needs
+
+mul-row : tie.Need-mul-row
+mul-row c = search needs
+
+element-copy-out-row : tie.Need-element-copy-out-row
+element-copy-out-row c = search needs
+
+settle-requires : tie.Need-settle-requires
+settle-requires c κs = search needs
+
+enum-known-after-3 : tie.Need-enum-known-after-3
+enum-known-after-3 c = search needs
+
+settle-requires-2 : tie.Need-settle-requires-2
+settle-requires-2 c κs = search needs
+
+returns : tie.Need-returns
+returns c = simp (c .enum-told .given .1)
+
+returns-2 : tie.Need-returns-2
+returns-2 c = simp (c .enum-told2 .given .1)
+
+returns-3 : tie.Need-returns-3
+returns-3 c = simp (c .enum-told3 .given .1)
+
+returns-4 : tie.Need-returns-4
+returns-4 c = simp (c .before .before .after .given .1)
+
+returns-5 : tie.Need-returns-5
+returns-5 c = simp (c .settle .ensures, c .before .before .before .after2 .given .1)
+
+returns-6 : tie.Need-returns-6
+returns-6 c = simp (c .settle2 .ensures, c .before .before .after3 .given .1)
+
+pub tell-spec : {M : Type 1} → statement M
+tell-spec =
+    tie.close
+    (tie.spec
+    enum-told
+    enum-told-2
+    enum-told-3
+    enum-known-after
+    cast-n
+    mul-item
+    element-copy-out-item
+    enum-known-after-2
+    mul-row
+    element-copy-out-row
+    settle-requires
+    enum-known-after-3
+    settle-requires-2
+    returns
+    returns-2
+    returns-3
+    returns-4
+    returns-5
+    returns-6)
