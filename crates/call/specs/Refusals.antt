@@ -4,7 +4,7 @@ use mathlib.Core.Bool.{Bool, true, false, not, cond, _&&_}
 use lib.Dec.{eqb, ltb, leb}
 use Rattle.refusal.specs.declared.Refusal.the-variants.{NoSuchThread, InCall, NotInCall, NoNode, NoFuture, NoPendingPlace, NoAnnouncement}
 use Rattle.thread.specs.declared.Place.{Place}
-use Rattle.thread.specs.declared.row.Row.{Row}
+use Rattle.row.specs.declared.Row.{Row}
 use Rattle.thread.specs.Place.{idle}
 use Rattle.call.specs.declared.answer.Verdict.{Verdict}
 use Rattle.call.specs.declared.answer.Verdict.the-variants.{Accepted, Refused}

@@ -38,6 +38,10 @@ pub enum Verdict {
     Refused(Refusal),
 }
 
+impl Future {
+    pub const FUTURES: u16 = 512;
+}
+
 impl Outcome {
     // The answer that gives it. A future that a batch's end leaves waiting would answer Empty; there is
     // none in a machine that entries reach.

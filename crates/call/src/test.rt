@@ -4,8 +4,8 @@ ghost use Rattle.call.specs.Next.{nextNode, nextFuture, nextAnnouncement
 ghost use Rattle.call.specs.Refusals.{short, lacking, callable, steppable, foreign, callVerdict};
 use crate::answer::Verdict;
 use refusal::Refusal;
+use row::Row;
 use thread::Place;
-use thread::row::Row;
 
 // How many nodes, futures and announcements have been handed out.
 pub struct Used {
@@ -49,7 +49,7 @@ pub struct Needs {
 }
 
 // Whether something is needed and all that there are have been handed out.
-pub fn short(needed: bool, used: u32, all: u32) -> bool
+fn short(needed: bool, used: u32, all: u32) -> bool
     ensures { λ r. ⌜ r ≡ short needed used all ⌝ }
 {
     if needed {

@@ -10,9 +10,9 @@ use Rattle.memory.specs.Reach.{nodeOf, announcementOf, on}
 use Rattle.memory.proofs.Performs.{performs}
 use Rattle.thread.specs.declared.Place.{Place}
 use Rattle.thread.specs.declared.After.{After}
-use Rattle.thread.specs.declared.row.Row.{Row}
+use Rattle.row.specs.declared.Row.{Row}
 use Rattle.thread.specs.Place.{announcementRun, access, after, placeAfter}
-use Rattle.thread.specs.Row.{placed}
+use Rattle.row.specs.Row.{placed}
 use Rattle.machine.specs.declared.Machine.{Machine}
 use Rattle.machine.specs.State.{memoryOf, rowAt}
 use Rattle.machine.specs.Steps.{Hop, hop, moved, goes, requestOf}

@@ -13,8 +13,8 @@ use Rattle.thread.specs.declared.enqueue.EnqueueStep.the-variants.{E1}
 use Rattle.thread.specs.declared.dequeue.DequeueStep.the-variants.{D1}
 use Rattle.thread.specs.declared.batch.BatchStep.the-variants.{B1}
 use Rattle.thread.specs.declared.dequeues.DequeuesStep.the-variants.{Q1}
-use Rattle.thread.specs.declared.row.Row.{Row}
-use Rattle.thread.specs.Row.{placed, calling, withEnqueue, withDequeue, cleared, request}
+use Rattle.row.specs.declared.Row.{Row}
+use Rattle.row.specs.Row.{placed, calling, withEnqueue, withDequeue, cleared, request}
 use Rattle.call.specs.declared.answer.Item.{Item}
 use Rattle.call.specs.declared.answer.Answer.{Answer}
 use Rattle.call.specs.declared.answer.Answer.the-variants as answer

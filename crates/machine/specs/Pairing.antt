@@ -4,7 +4,7 @@ use mathlib.Core.List.{List}
 use lib.ListN.{getD, set}
 use Rattle.memory.specs.declared.Cell.{Cell}
 use Rattle.memory.specs.Memory.{cellAt}
-use Rattle.thread.specs.Row.{cleared}
+use Rattle.row.specs.Row.{cleared}
 use Rattle.call.specs.declared.answer.Item.{Item}
 use Rattle.call.specs.declared.answer.Outcome.{Outcome}
 use Rattle.call.specs.declared.answer.Outcome.the-variants as outcome

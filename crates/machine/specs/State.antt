@@ -8,8 +8,8 @@ use Rattle.refusal.specs.declared.Refusal.the-variants.{SetupOutOfRange}
 use Rattle.memory.specs.declared.Head.the-variants.{Plain}
 use Rattle.memory.specs.Memory.{Memory, noCell, noFront, noAnnouncement}
 use Rattle.memory.specs.Found.{noTail}
-use Rattle.thread.specs.declared.row.Row.{Row}
-use Rattle.thread.specs.Row.{freshRow, noRow}
+use Rattle.row.specs.declared.Row.{Row}
+use Rattle.row.specs.Row.{freshRow, noRow}
 use Rattle.call.specs.declared.answer.Item.{Item}
 use Rattle.call.specs.declared.answer.Future.{Future}
 use Rattle.call.specs.declared.answer.Outcome.the-variants.{Waiting}

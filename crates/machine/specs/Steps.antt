@@ -8,9 +8,9 @@ use Rattle.memory.specs.Memory.{Performed, perform, noAnnouncement}
 use Rattle.thread.specs.declared.Place.the-variants.{Idle}
 use Rattle.thread.specs.declared.After.{After}
 use Rattle.thread.specs.declared.After.the-variants as afterwards
-use Rattle.thread.specs.declared.row.Row.{Row}
+use Rattle.row.specs.declared.Row.{Row}
 use Rattle.thread.specs.Place.{announcementRun, access, after, placeAfter, goesOn}
-use Rattle.thread.specs.Row.{placed}
+use Rattle.row.specs.Row.{placed}
 use Rattle.call.specs.declared.answer.Answer.{Answer}
 use Rattle.call.specs.declared.answer.Answer.the-variants.{Ok, Item, Empty, More}
 use Rattle.machine.specs.declared.Told.{Told}

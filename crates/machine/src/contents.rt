@@ -8,6 +8,7 @@ use crate::Machine;
 use call::pairing::node_behind;
 use lent::Writing;
 use memory::Announcement;
+use memory::Cell;
 use memory::Head;
 use memory::Link;
 use memory::OldTail;
@@ -24,7 +25,7 @@ impl Machine {
         let mut at = from;
         let mut left = links;
         while 0 < left {
-            let cell = self.links[(at % 512) as usize];
+            let cell = self.links[(at % Cell::NODES) as usize];
             let link = cell.link;
             at = node_behind(link, at);
             left -= 1;
@@ -63,7 +64,7 @@ impl Machine {
             OldTail::Unset => {
                 let ends = self.ends;
                 let tail = ends.tail;
-                let cell = self.links[(tail.node % 512) as usize];
+                let cell = self.links[(tail.node % Cell::NODES) as usize];
                 let link = cell.link;
                 if leads_to(link, request.first) {
                     return self.head_to_be(request, tail);
@@ -81,7 +82,7 @@ impl Machine {
         match head {
             Head::Plain(front) => front.node,
             Head::Announced(a) => {
-                let announcement = self.announcements[(a % 64) as usize];
+                let announcement = self.announcements[(a % Announcement::ANNOUNCEMENTS) as usize];
                 self.announced_head(announcement)
             }
         }
@@ -104,8 +105,8 @@ impl Machine {
     {
         let mut at = node;
         let mut count: usize = 0;
-        while count < 512 {
-            let cell = self.links[(at % 512) as usize];
+        while count < Machine::NODES {
+            let cell = self.links[(at % Cell::NODES) as usize];
             let link = cell.link;
             match link {
                 Link::None => {
@@ -128,10 +129,10 @@ impl Machine {
         let mut at = node;
         let mut i: usize = 0;
         while i < count {
-            let cell = self.links[(at % 512) as usize];
+            let cell = self.links[(at % Cell::NODES) as usize];
             let link = cell.link;
             at = node_behind(link, at);
-            let item = self.items[(at % 512) as usize];
+            let item = self.items[(at % Cell::NODES) as usize];
             out[i] = item.value;
             i += 1;
         }
@@ -168,7 +169,7 @@ impl Machine {
                 less(enqueues.0, dequeues.0)
             }
             Head::Announced(a) => {
-                let announcement = self.announcements[(a % 64) as usize];
+                let announcement = self.announcements[(a % Announcement::ANNOUNCEMENTS) as usize];
                 let request = announcement.request;
                 let front = request.old_head;
                 let dequeues = front.count;

@@ -7,6 +7,7 @@ use crate::Told;
 use call::answer::Answer;
 use call::pairing::Cursor;
 use call::pairing::Supply;
+use memory::Cell;
 use memory::Cells;
 use memory::Link;
 use thread::After;
@@ -96,7 +97,7 @@ impl Machine {
                 steps,
             },
             After::Item(node) => {
-                let n = (node % 512) as usize;
+                let n = (node % Cell::NODES) as usize;
                 let item = self.items[n];
                 Told {
                     machine: self,

@@ -3,6 +3,7 @@ ghost use mathlib.Core.Path.{_≡_};
 ghost use Prim.Native.Nat.{_<_, _%_};
 ghost use Rattle.machine.specs.Entries.{linkedBehind, deferEnqueue, deferDequeue, setOff, startEnqueue, startDequeue, evaluateOwn, evaluateWaiting, enqueue, dequeue, futureEnqueue, futureDequeue, evaluate, step, run, apply, refusing, telling};
 use crate::Machine;
+use crate::SetUp;
 use crate::Told;
 use call::answer::Answer;
 use call::answer::Item;
@@ -13,12 +14,12 @@ use call::test::Used;
 use memory::Cell;
 use memory::Link;
 use refusal::Refusal;
+use row::Row;
 use thread::Place;
 use thread::batch::BatchStep;
 use thread::dequeue::DequeueStep;
 use thread::dequeues::DequeuesStep;
 use thread::enqueue::EnqueueStep;
-use thread::row::Row;
 
 // An entry with its operands, as 01's table has them.
 pub enum Entry {
@@ -62,10 +63,11 @@ impl Machine {
         if tally.enqueues == 0 {
             return self;
         }
-        let last = row.last as usize % Cell::NODES;
-        self.links[last] = Cell {
+        let last = (row.last % Cell::NODES) as usize;
+        let linked = Cell {
             link: Link::To(node),
         };
+        self.links[last] = linked;
         self
     }
 
@@ -178,10 +180,10 @@ impl Machine {
 // The entries. Each answers as 01's table says, or refuses with the machine unchanged.
 impl Machine {
     // Refused: 1, 2, 4 to 7.
-    pub fn enqueue(self, thread: u32, item: u32) -> Told
+    fn enqueue(self, thread: u32, item: u32) -> Told
         ensures { λ r. ⌜ r ≡ enqueue self thread item ⌝ }
     {
-        let at = (thread % 8) as usize;
+        let at = (thread % SetUp::THREADS) as usize;
         let row = self.rows[at];
         let used = self.used;
         let needs = Needs {
@@ -200,10 +202,10 @@ impl Machine {
     }
 
     // Refused: 1, 2, 5 to 7.
-    pub fn dequeue(self, thread: u32) -> Told
+    fn dequeue(self, thread: u32) -> Told
         ensures { λ r. ⌜ r ≡ dequeue self thread ⌝ }
     {
-        let at = (thread % 8) as usize;
+        let at = (thread % SetUp::THREADS) as usize;
         let row = self.rows[at];
         let tally = row.tally;
         let used = self.used;
@@ -220,10 +222,10 @@ impl Machine {
     }
 
     // Refused: 1, 2, 4 to 6.
-    pub fn future_enqueue(self, thread: u32, item: u32) -> Told
+    fn future_enqueue(self, thread: u32, item: u32) -> Told
         ensures { λ r. ⌜ r ≡ futureEnqueue self thread item ⌝ }
     {
-        let at = (thread % 8) as usize;
+        let at = (thread % SetUp::THREADS) as usize;
         let row = self.rows[at];
         let used = self.used;
         let needs = Needs {
@@ -242,10 +244,10 @@ impl Machine {
     }
 
     // Refused: 1, 2, 5, 6.
-    pub fn future_dequeue(self, thread: u32) -> Told
+    fn future_dequeue(self, thread: u32) -> Told
         ensures { λ r. ⌜ r ≡ futureDequeue self thread ⌝ }
     {
-        let at = (thread % 8) as usize;
+        let at = (thread % SetUp::THREADS) as usize;
         let row = self.rows[at];
         let used = self.used;
         let needs = Needs {
@@ -264,11 +266,11 @@ impl Machine {
     }
 
     // Refused: 1, 2, 8, 7.
-    pub fn evaluate(self, thread: u32, future: u32) -> Told
+    fn evaluate(self, thread: u32, future: u32) -> Told
         ensures { λ r. ⌜ r ≡ evaluate self thread future ⌝ }
     {
-        let at = (thread % 8) as usize;
-        let number = (future % 512) as u16;
+        let at = (thread % SetUp::THREADS) as usize;
+        let number = (future % Used::FUTURES) as u16;
         let row = self.rows[at];
         let place = row.place;
         let used = self.used;
@@ -287,10 +289,10 @@ impl Machine {
     }
 
     // Refused: 1, 3.
-    pub fn run(self, thread: u32, steps: u32) -> Told
+    fn run(self, thread: u32, steps: u32) -> Told
         ensures { λ r. ⌜ r ≡ run self thread steps ⌝ }
     {
-        let at = (thread % 8) as usize;
+        let at = (thread % SetUp::THREADS) as usize;
         let row = self.rows[at];
         let place = row.place;
         let verdict = call::test::steppable(thread, self.threads, place);
@@ -301,7 +303,7 @@ impl Machine {
     }
 
     // Refused: 1, 3.
-    pub fn step(self, thread: u32) -> Told
+    fn step(self, thread: u32) -> Told
         ensures { λ r. ⌜ r ≡ step self thread ⌝ }
     {
         self.run(thread, 1)

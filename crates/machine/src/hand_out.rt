@@ -19,7 +19,7 @@ impl Machine {
         ensures { λ r. ⌜ r ≡ handOutNode self item ⌝ }
     {
         let used = self.used;
-        let node = (used.nodes % 512) as usize;
+        let node = (used.nodes % Used::NODES) as usize;
         self.links[node] = Cell { link: Link::None };
         self.items[node] = item;
         let now_used = Used {
@@ -36,7 +36,7 @@ impl Machine {
         ensures { λ r. ⌜ r ≡ handOutFuture self owner enqueue ⌝ }
     {
         let used = self.used;
-        let future = (used.futures % 512) as usize;
+        let future = (used.futures % Used::FUTURES) as usize;
         self.futures[future] = Future {
             owner,
             enqueue,
@@ -56,7 +56,7 @@ impl Machine {
         ensures { λ r. ⌜ r ≡ handOutAnnouncement self request ⌝ }
     {
         let used = self.used;
-        let announcement = (used.announcements % 64) as usize;
+        let announcement = (used.announcements % Used::ANNOUNCEMENTS) as usize;
         self.announcements[announcement] = Announcement {
             request,
             old_tail: OldTail::Unset,

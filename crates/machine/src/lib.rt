@@ -31,18 +31,18 @@ use memory::OldTail;
 use memory::Request;
 use memory::Tail;
 use refusal::Refusal;
+use row::Row;
 use tally::Tally;
-use thread::row::Row;
 
 // `links` and `items` by node, `announcements` and `futures` by their numbers, `rows` by thread. `threads`
 // and `nodes` are the numbers of the set-up.
 pub struct Machine {
     pub ends: Ends,
-    pub links: [Cell; 512],
-    pub announcements: [Announcement; 64],
-    pub items: [Item; 512],
-    pub futures: [Future; 512],
-    pub rows: [Row; 8],
+    pub links: [Cell; Machine::NODES],
+    pub announcements: [Announcement; Machine::ANNOUNCEMENTS],
+    pub items: [Item; Machine::NODES],
+    pub futures: [Future; Machine::FUTURES],
+    pub rows: [Row; Machine::THREADS],
     pub threads: u32,
     pub nodes: u32,
     pub used: Used,
@@ -54,6 +54,12 @@ pub struct SetUp {
     pub machine: Machine,
 }
 
+impl SetUp {
+    pub const THREADS: u32 = 8;
+
+    pub const NODES: u32 = 512;
+}
+
 // The machine after an entry, its answer, and the steps that it took.
 pub struct Told {
     pub machine: Machine,
@@ -62,15 +68,13 @@ pub struct Told {
 }
 
 impl Machine {
-    pub const THREADS: u32 = 8;
+    pub const THREADS: usize = 8;
 
-    pub const NODES: u32 = 512;
+    pub const NODES: usize = 512;
 
-    pub const FUTURES: u32 = 512;
+    pub const FUTURES: usize = 512;
 
-    pub const ANNOUNCEMENTS: u32 = 64;
-
-    pub const PENDING: u32 = 32;
+    pub const ANNOUNCEMENTS: usize = 64;
 
     // One dummy node, number 0, at which head and tail point; both counts zero; every thread idle, with
     // nothing pending.
@@ -104,11 +108,11 @@ impl Machine {
                 head: Head::Plain(front),
                 tail,
             },
-            links: [Cell { link: Link::None }; 512],
-            announcements: [unused; 64],
-            items: [Item { value: 0 }; 512],
-            futures: [nothing; 512],
-            rows: [Row::fresh(); 8],
+            links: [Cell { link: Link::None }; Machine::NODES],
+            announcements: [unused; Machine::ANNOUNCEMENTS],
+            items: [Item { value: 0 }; Machine::NODES],
+            futures: [nothing; Machine::FUTURES],
+            rows: [Row::fresh(); Machine::THREADS],
             threads,
             nodes,
             used: Used {
@@ -144,13 +148,13 @@ fn in_range(threads: u32, nodes: u32) -> Verdict
     if threads < 1 {
         return Verdict::Refused(Refusal::SetupOutOfRange);
     }
-    if Machine::THREADS < threads {
+    if SetUp::THREADS < threads {
         return Verdict::Refused(Refusal::SetupOutOfRange);
     }
     if nodes < 2 {
         return Verdict::Refused(Refusal::SetupOutOfRange);
     }
-    if Machine::NODES < nodes {
+    if SetUp::NODES < nodes {
         return Verdict::Refused(Refusal::SetupOutOfRange);
     }
     Verdict::Accepted

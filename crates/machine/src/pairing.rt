@@ -7,6 +7,8 @@ use crate::Told;
 use call::answer::Future;
 use call::pairing::Around;
 use call::pairing::Cursor;
+use memory::Cell;
+use row::Row;
 
 impl Machine {
     // The futures of the thread's pending calls become done, in calling order.
@@ -16,19 +18,19 @@ impl Machine {
     {
         let row = self.rows[at];
         let pending = row.pending;
-        let count = row.count % 33;
+        let count = row.count % Row::COUNTS;
         let mut cursor = start;
         let mut k: u32 = 0;
         while k < count {
-            let place = (k % 32) as usize;
-            let future = (pending[place] % 512) as usize;
+            let place = (k % Row::PENDING) as usize;
+            let future = (pending[place] % Future::FUTURES) as usize;
             let x = self.futures[future];
             let head = cursor.at;
-            let cell = self.links[(head % 512) as usize];
+            let cell = self.links[(head % Cell::NODES) as usize];
             let behind = cell.link;
             let node = call::pairing::node_behind(behind, head);
-            let item = self.items[(node % 512) as usize];
-            let next = self.links[(cursor.next_node() % 512) as usize];
+            let item = self.items[(node % Cell::NODES) as usize];
+            let next = self.links[(cursor.next_node() % Cell::NODES) as usize];
             let behind_next = next.link;
             let around = Around {
                 behind,
@@ -59,7 +61,7 @@ impl Machine {
     {
         let row = self.rows[at];
         let paired = self.pair(at, start);
-        let asked = (row.future % 512) as usize;
+        let asked = (row.future % Future::FUTURES) as usize;
         let x = paired.futures[asked];
         let outcome = x.outcome;
         Told {

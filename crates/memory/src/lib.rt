@@ -65,11 +65,11 @@ pub struct Announcement {
 }
 
 impl Cell {
-    pub const NODES: usize = 512;
+    pub const NODES: u16 = 512;
 }
 
 impl Announcement {
-    pub const ANNOUNCEMENTS: usize = 64;
+    pub const ANNOUNCEMENTS: u8 = 64;
 }
 
 // One access. A link is only ever compared with none and swapped.
@@ -120,7 +120,7 @@ impl Tail {
         }
     }
 
-    pub fn same(self, other: Tail) -> bool
+    fn same(self, other: Tail) -> bool
         ensures { λ r. ⌜ r ≡ sameTail self other ⌝ }
     {
         let a = self.count;
@@ -145,7 +145,7 @@ impl Front {
         }
     }
 
-    pub fn same(self, other: Front) -> bool
+    fn same(self, other: Front) -> bool
         ensures { λ r. ⌜ r ≡ sameFront self other ⌝ }
     {
         let a = self.count;
@@ -158,7 +158,7 @@ impl Front {
 }
 
 impl Head {
-    pub fn same(self, other: Head) -> bool
+    fn same(self, other: Head) -> bool
         ensures { λ r. ⌜ r ≡ sameHead self other ⌝ }
     {
         match self {
@@ -250,8 +250,8 @@ impl Access {
         ensures { λ r. ⌜ (r ≡ nodeOf self) × (r < 512) ⌝ }
     {
         match self {
-            Access::ReadLink { node } => node as usize % Cell::NODES,
-            Access::CasLink { node, to: _ } => node as usize % Cell::NODES,
+            Access::ReadLink { node } => (node % Cell::NODES) as usize,
+            Access::CasLink { node, to: _ } => (node % Cell::NODES) as usize,
             Access::ReadHead => 0,
             Access::ReadTail => 0,
             Access::ReadOldTail { of: _ } => 0,
@@ -267,9 +267,9 @@ impl Access {
         ensures { λ r. ⌜ (r ≡ announcementOf self) × (r < 64) ⌝ }
     {
         match self {
-            Access::ReadOldTail { of } => of as usize % Announcement::ANNOUNCEMENTS,
-            Access::WriteOldTail { of, tail: _ } => of as usize % Announcement::ANNOUNCEMENTS,
-            Access::Announce { own, was: _ } => own as usize % Announcement::ANNOUNCEMENTS,
+            Access::ReadOldTail { of } => (of % Announcement::ANNOUNCEMENTS) as usize,
+            Access::WriteOldTail { of, tail: _ } => (of % Announcement::ANNOUNCEMENTS) as usize,
+            Access::Announce { own, was: _ } => (own % Announcement::ANNOUNCEMENTS) as usize,
             Access::ReadHead => 0,
             Access::ReadTail => 0,
             Access::ReadLink { node: _ } => 0,

@@ -4,4 +4,3 @@ pub mod Batch
 pub mod Dequeues
 pub mod Running
 pub mod Place
-pub mod Row

@@ -17,7 +17,7 @@ pub enum BatchStep {
 }
 
 impl BatchStep {
-    pub fn access(self, own: u8) -> Access
+    pub(crate) fn access(self, own: u8) -> Access
         ensures { λ r. ⌜ r ≡ batchAccess own self ⌝ }
     {
         match self {
@@ -26,7 +26,7 @@ impl BatchStep {
         }
     }
 
-    pub fn after(self, own: u8, found: Found) -> After
+    pub(crate) fn after(self, own: u8, found: Found) -> After
         ensures { λ r. ⌜ r ≡ batchAfter own self found ⌝ }
     {
         match self {

@@ -19,7 +19,7 @@ pub enum DequeueStep {
 }
 
 impl DequeueStep {
-    pub fn access(self) -> Access
+    pub(crate) fn access(self) -> Access
         ensures { λ r. ⌜ r ≡ dequeueAccess self ⌝ }
     {
         match self {
@@ -32,7 +32,7 @@ impl DequeueStep {
         }
     }
 
-    pub fn after(self, found: Found) -> After
+    pub(crate) fn after(self, found: Found) -> After
         ensures { λ r. ⌜ r ≡ dequeueAfter self found ⌝ }
     {
         match self {

@@ -25,7 +25,7 @@ pub enum DequeuesStep {
 }
 
 impl DequeuesStep {
-    pub fn access(self) -> Access
+    pub(crate) fn access(self) -> Access
         ensures { λ r. ⌜ r ≡ dequeuesAccess self ⌝ }
     {
         match self {
@@ -41,7 +41,7 @@ impl DequeuesStep {
         }
     }
 
-    pub fn after(self, found: Found, pending: u32) -> After
+    pub(crate) fn after(self, found: Found, pending: u32) -> After
         ensures { λ r. ⌜ r ≡ dequeuesAfter self found pending ⌝ }
     {
         match self {

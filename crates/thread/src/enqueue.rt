@@ -21,7 +21,7 @@ pub enum EnqueueStep {
 }
 
 impl EnqueueStep {
-    pub fn access(self, node: u16) -> Access
+    pub(crate) fn access(self, node: u16) -> Access
         ensures { λ r. ⌜ r ≡ enqueueAccess node self ⌝ }
     {
         match self {
@@ -42,7 +42,7 @@ impl EnqueueStep {
         }
     }
 
-    pub fn after(self, node: u16, found: Found) -> After
+    pub(crate) fn after(self, node: u16, found: Found) -> After
         ensures { λ r. ⌜ r ≡ enqueueAfter node self found ⌝ }
     {
         match self {

@@ -6,7 +6,6 @@ pub mod batch;
 pub mod dequeue;
 pub mod dequeues;
 pub mod enqueue;
-pub mod row;
 pub mod running;
 
 ghost use mathlib.Core.Path.{_≡_};
@@ -74,7 +73,7 @@ impl Place {
         ensures { λ r. ⌜ (r ≡ announcementRun self) × (r < 64) ⌝ }
     {
         match self {
-            Place::Running(a, _, _) => a as usize % Announcement::ANNOUNCEMENTS,
+            Place::Running(a, _, _) => (a % Announcement::ANNOUNCEMENTS) as usize,
             Place::Idle => 0,
             Place::Enqueue(_, _) => 0,
             Place::Dequeue(_) => 0,

@@ -32,7 +32,7 @@ pub enum RunStep {
 }
 
 impl RunStep {
-    pub fn access(self, a: u8, request: Request) -> Access
+    pub(crate) fn access(self, a: u8, request: Request) -> Access
         ensures { λ r. ⌜ r ≡ runAccess a request self ⌝ }
     {
         let tally = request.tally;
@@ -65,7 +65,7 @@ impl RunStep {
         }
     }
 
-    pub fn after(self, a: u8, found: Found, request: Request, resume: Resume) -> After
+    pub(crate) fn after(self, a: u8, found: Found, request: Request, resume: Resume) -> After
         ensures { λ r. ⌜ r ≡ runAfter a request resume self found ⌝ }
     {
         match self {
@@ -142,7 +142,7 @@ pub fn walk_to(request: Request, old: Tail) -> RunStep
 }
 
 // The items that waited where the batch was linked: the old tail's count less the old head's.
-pub fn size_at(request: Request, old: Tail) -> u32
+fn size_at(request: Request, old: Tail) -> u32
     ensures { λ r. ⌜ r ≡ sizeAt request old ⌝ }
 {
     let front = request.old_head;
@@ -187,7 +187,7 @@ fn less(x: u32, y: u32) -> u32
 
 impl Resume {
     // Back to the call that met the announcement, or its end where the announcement was its own.
-    pub fn back(self, request: Request) -> After
+    pub(crate) fn back(self, request: Request) -> After
         ensures { λ r. ⌜ r ≡ back request self ⌝ }
     {
         let front = request.old_head;

@@ -1,7 +1,7 @@
--- `thread::row::Row::with_enqueue` meets its contract, from what the counters ensure.
+-- `row::Row::with_enqueue` meets its contract, from what the counters ensure.
 use borrow.Author.Needs.{needs}
-use Rattle.thread.proofs.row.Row.with_enqueue.Statement.{statement}
-use Rattle.thread.proofs.row.Row.with_enqueue.Tie as tie
+use Rattle.row.proofs.Row.with_enqueue.Statement.{statement}
+use Rattle.row.proofs.Row.with_enqueue.Tie as tie
 
 cast-at : tie.Need-cast-at
 cast-at c = search needs

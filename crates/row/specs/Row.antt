@@ -8,9 +8,9 @@ use Rattle.tally.specs.Tally.{nothingPending, up}
 use Rattle.tally.specs.Tally as tally
 use Rattle.memory.specs.declared.Request.{Request}
 use Rattle.memory.specs.Memory.{noFront}
 use Rattle.thread.specs.declared.Place.{Place}
 use Rattle.thread.specs.declared.Place.the-variants.{Idle}
-use Rattle.thread.specs.declared.row.Row.{Row}
+use Rattle.row.specs.declared.Row.{Row}
 
 abbrev pub freshRow : Row
 freshRow = record { place = Idle; pending = replicate 32 0; count = 0; tally = nothingPending; first = 0; last = 0; future = 0 }

@@ -1,7 +1,7 @@
--- `thread::row::Row::fresh` meets its contract.
+-- `row::Row::fresh` meets its contract.
 use borrow.Author.Needs.{needs}
-use Rattle.thread.proofs.row.Row.fresh.Statement.{statement}
-use Rattle.thread.proofs.row.Row.fresh.Tie as tie
+use Rattle.row.proofs.Row.fresh.Statement.{statement}
+use Rattle.row.proofs.Row.fresh.Tie as tie
 
 -- src/row.rt:34:20
 none-requires : tie.Need-none-requires

@@ -1,7 +1,7 @@
--- `thread::row::Row::cleared` meets its contract.
+-- `row::Row::cleared` meets its contract.
 use borrow.Author.Needs.{needs}
-use Rattle.thread.proofs.row.Row.cleared.Statement.{statement}
-use Rattle.thread.proofs.row.Row.cleared.Tie as tie
+use Rattle.row.proofs.Row.cleared.Statement.{statement}
+use Rattle.row.proofs.Row.cleared.Tie as tie
 
 -- src/row.rt:111:20
 none-requires : tie.Need-none-requires

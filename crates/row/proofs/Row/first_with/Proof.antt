@@ -1,7 +1,7 @@
--- `thread::row::Row::first_with` meets its contract, by whether an enqueue was pending.
+-- `row::Row::first_with` meets its contract, by whether an enqueue was pending.
 use borrow.Author.Tests.{eq-eqb, ne-eqb}
-use Rattle.thread.proofs.row.Row.first_with.Statement.{statement}
-use Rattle.thread.proofs.row.Row.first_with.Tie as tie
+use Rattle.row.proofs.Row.first_with.Statement.{statement}
+use Rattle.row.proofs.Row.first_with.Tie as tie
 
 returns : tie.Need-returns
 returns c = simp (eq-eqb _ _ (c .if1 .taken))

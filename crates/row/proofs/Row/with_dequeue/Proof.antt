@@ -1,7 +1,7 @@
--- `thread::row::Row::with_dequeue` meets its contract, from what the counters ensure.
+-- `row::Row::with_dequeue` meets its contract, from what the counters ensure.
 use borrow.Author.Needs.{needs}
-use Rattle.thread.proofs.row.Row.with_dequeue.Statement.{statement}
-use Rattle.thread.proofs.row.Row.with_dequeue.Tie as tie
+use Rattle.row.proofs.Row.with_dequeue.Statement.{statement}
+use Rattle.row.proofs.Row.with_dequeue.Tie as tie
 
 -- src/row.rt:94:18
 cast-at : tie.Need-cast-at

@@ -1,11 +1,11 @@
 // One thread's row: its place, its pending calls and their tally, and the batch's nodes.
 ghost use mathlib.Core.Path.{_≡_};
-ghost use Rattle.thread.specs.Row.{freshRow, placed, calling, firstWith, withEnqueue, withDequeue, cleared, request};
-use crate::Place;
+ghost use Rattle.row.specs.Row.{freshRow, placed, calling, firstWith, withEnqueue, withDequeue, cleared, request};
 use memory::DequeueCount;
 use memory::Front;
 use memory::Request;
 use tally::Tally;
+use thread::Place;
 
 // Pending calls are held by their futures, in calling order; `count` of them. `first` and `last` are the
 // nodes of the first and the last pending enqueue, where there is one. `future` is the future whose result
@@ -22,6 +22,9 @@ pub struct Row {
 
 impl Row {
     pub const PENDING: u32 = 32;
+
+    // As many counts of pending calls as there can be, none among them.
+    pub const COUNTS: u32 = 33;
 
     // Idle, with nothing pending.
     pub fn fresh() -> Row
