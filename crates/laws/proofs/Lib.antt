@@ -1,0 +1,5 @@
+pub mod Refused
+pub mod Runs
+pub mod OneCell
+pub mod StepChanges
+pub mod HandedOut
