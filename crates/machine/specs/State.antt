@@ -5,6 +5,7 @@ use mathlib.Core.List.{List}
 use lib.Dec.{ltb}
 use lib.ListN.{getD, set, replicate}
 use Rattle.refusal.specs.declared.Refusal.the-variants.{SetupOutOfRange}
+use Rattle.memory.specs.declared.Ends.{Ends}
 use Rattle.memory.specs.declared.Head.the-variants.{Plain}
 use Rattle.memory.specs.Memory.{Memory, noCell, noFront, noAnnouncement}
 use Rattle.memory.specs.Found.{noTail}
@@ -24,10 +25,13 @@ noItem = record { value = 0 }
 abbrev pub noFuture : Future
 noFuture = record { owner = 0; enqueue = false; outcome = Waiting }
 
+abbrev pub endsAtTheDummy : Ends
+endsAtTheDummy = record { head = Plain noFront; tail = noTail }
+
 -- a fresh machine has one dummy node, number 0, at which head and tail point, both counts zero; every thread is idle and has nothing pending
 abbrev pub freshMachine : ℕ → ℕ → Machine
 freshMachine threads nodes = record {
-  ends = record { head = Plain noFront; tail = noTail };
+  ends = endsAtTheDummy;
   links = replicate 512 noCell;
   announcements = replicate 64 noAnnouncement;
   items = replicate 512 noItem;

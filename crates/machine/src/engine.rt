@@ -8,7 +8,6 @@ use call::answer::Answer;
 use call::pairing::Cursor;
 use call::pairing::Supply;
 use memory::Cell;
-use memory::Cells;
 use memory::Link;
 use thread::After;
 use thread::Place;
@@ -18,6 +17,26 @@ pub struct Ran {
     pub machine: Machine,
     pub after: After,
     pub steps: u32,
+}
+
+fn ran_to(machine: Machine, after: After, steps: u32) -> Ran
+    ensures { λ r. ⌜ r ≡ record { machine = machine; after = after; steps = steps } ⌝ }
+{
+    Ran {
+        machine,
+        after,
+        steps,
+    }
+}
+
+fn telling_after(machine: Machine, answer: Answer, steps: u32) -> Told
+    ensures { λ r. ⌜ r ≡ record { machine = machine; answer = answer; steps = steps } ⌝ }
+{
+    Told {
+        machine,
+        answer,
+        steps,
+    }
 }
 
 impl Machine {
@@ -41,11 +60,7 @@ impl Machine {
             let ends = self.ends;
             let cell = self.links[node];
             let reached = self.announcements[other];
-            let hit = access.on(Cells {
-                ends,
-                cell,
-                announcement: reached,
-            });
+            let hit = access.on(ends, cell, reached);
             let found = hit.found;
             let cells = hit.cells;
             let new_ends = cells.ends;
@@ -61,17 +76,9 @@ impl Machine {
             if after.goes_on() {
                 continue;
             }
-            return Ran {
-                machine: self,
-                after,
-                steps: most - left,
-            };
+            return ran_to(self, after, most - left);
         }
-        Ran {
-            machine: self,
-            after: After::On(Place::Idle),
-            steps: most,
-        }
+        ran_to(self, After::On(Place::Idle), most)
     }
 
     // The answer after some steps. In the step that ends a batch's call its futures become done, and the
@@ -81,29 +88,13 @@ impl Machine {
         ensures { λ r. ⌜ r ≡ tell self at steps after ⌝ }
     {
         match after {
-            After::On(_) => Told {
-                machine: self,
-                answer: Answer::More,
-                steps,
-            },
-            After::Ok => Told {
-                machine: self,
-                answer: Answer::Ok,
-                steps,
-            },
-            After::Empty => Told {
-                machine: self,
-                answer: Answer::Empty,
-                steps,
-            },
+            After::On(_) => telling_after(self, Answer::More, steps),
+            After::Ok => telling_after(self, Answer::Ok, steps),
+            After::Empty => telling_after(self, Answer::Empty, steps),
             After::Item(node) => {
                 let n = (node % Cell::NODES) as usize;
                 let item = self.items[n];
-                Told {
-                    machine: self,
-                    answer: Answer::Item(item),
-                    steps,
-                }
+                telling_after(self, Answer::Item(item), steps)
             }
             After::Pair { from } => {
                 let row = self.rows[at];

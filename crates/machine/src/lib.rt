@@ -11,8 +11,9 @@ pub mod hand_out;
 pub mod pairing;
 
 ghost use mathlib.Core.Path.{_≡_};
-ghost use Rattle.machine.specs.State.{freshMachine, inRange, setUp, withRow};
+ghost use Rattle.machine.specs.State.{endsAtTheDummy, freshMachine, inRange, setUp, withRow};
 ghost use Prim.Native.Nat.{_<_};
+ghost use Rattle.memory.specs.Memory.{noAnnouncement};
 use call::answer::Answer;
 use call::answer::Future;
 use call::answer::Item;
@@ -81,35 +82,15 @@ impl Machine {
     pub fn fresh(threads: u32, nodes: u32) -> Machine
         ensures { λ r. ⌜ r ≡ freshMachine threads nodes ⌝ }
     {
-        let front = Front {
-            node: 0,
-            count: DequeueCount(0),
-        };
-        let tail = Tail {
-            node: 0,
-            count: EnqueueCount(0),
-        };
-        let unused = Announcement {
-            request: Request {
-                first: 0,
-                last: 0,
-                tally: Tally::none(),
-                old_head: front,
-            },
-            old_tail: OldTail::Unset,
-        };
         let nothing = Future {
             owner: 0,
             enqueue: false,
             outcome: Outcome::Waiting,
         };
         Machine {
-            ends: Ends {
-                head: Head::Plain(front),
-                tail,
-            },
+            ends: ends_at_the_dummy(),
             links: [Cell { link: Link::None }; Machine::NODES],
-            announcements: [unused; Machine::ANNOUNCEMENTS],
+            announcements: [unused_announcement(); Machine::ANNOUNCEMENTS],
             items: [Item { value: 0 }; Machine::NODES],
             futures: [nothing; Machine::FUTURES],
             rows: [Row::fresh(); Machine::THREADS],
@@ -139,6 +120,38 @@ impl Machine {
     {
         self.rows[thread] = row;
         self
+    }
+}
+
+fn ends_at_the_dummy() -> Ends
+    ensures { λ r. ⌜ r ≡ endsAtTheDummy ⌝ }
+{
+    Ends {
+        head: Head::Plain(Front {
+            node: 0,
+            count: DequeueCount(0),
+        }),
+        tail: Tail {
+            node: 0,
+            count: EnqueueCount(0),
+        },
+    }
+}
+
+fn unused_announcement() -> Announcement
+    ensures { λ r. ⌜ r ≡ noAnnouncement ⌝ }
+{
+    Announcement {
+        request: Request {
+            first: 0,
+            last: 0,
+            tally: Tally::none(),
+            old_head: Front {
+                node: 0,
+                count: DequeueCount(0),
+            },
+        },
+        old_tail: OldTail::Unset,
     }
 }
 

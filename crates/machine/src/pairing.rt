@@ -47,8 +47,7 @@ impl Machine {
                 outcome,
             };
             self.futures[future] = done;
-            let behind_it = paid.cursor;
-            cursor = behind_it;
+            cursor = paid.cursor;
             k += 1;
         }
         self

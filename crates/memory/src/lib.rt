@@ -280,42 +280,24 @@ impl Access {
     }
 
     // The access made on the cells that it reaches.
-    pub fn on(self, cells: Cells) -> Hit
+    pub fn on(self, ends: Ends, cell: Cell, announcement: Announcement) -> Hit
+        ensures { λ r. ⌜ r ≡ on self (record { ends = ends; cell = cell; announcement = announcement }) ⌝ }
+    {
+        self.on_cells(Cells {
+            ends,
+            cell,
+            announcement,
+        })
+    }
+
+    fn on_cells(self, cells: Cells) -> Hit
         ensures { λ r. ⌜ r ≡ on self cells ⌝ }
     {
         match self {
-            Access::ReadHead => {
-                let ends = cells.ends;
-                let head = ends.head;
-                Hit {
-                    cells,
-                    found: Found::Head(head),
-                }
-            }
-            Access::ReadTail => {
-                let ends = cells.ends;
-                let tail = ends.tail;
-                Hit {
-                    cells,
-                    found: Found::Tail(tail),
-                }
-            }
-            Access::ReadLink { node: _ } => {
-                let cell = cells.cell;
-                let link = cell.link;
-                Hit {
-                    cells,
-                    found: Found::Link(link),
-                }
-            }
-            Access::ReadOldTail { of: _ } => {
-                let announcement = cells.announcement;
-                let old = announcement.old_tail;
-                Hit {
-                    cells,
-                    found: Found::OldTail(old),
-                }
-            }
+            Access::ReadHead => cells.read_head(),
+            Access::ReadTail => cells.read_tail(),
+            Access::ReadLink { node: _ } => cells.read_link(),
+            Access::ReadOldTail { of: _ } => cells.read_old_tail(),
             Access::CasLink { node: _, to } => cells.cas_link(to),
             Access::CasTail { was, to } => cells.cas_tail(was, to),
             Access::CasHead { was, to } => cells.cas_head(was, Head::Plain(to)),
@@ -326,6 +308,50 @@ impl Access {
 }
 
 impl Cells {
+    fn read_head(self) -> Hit
+        ensures { λ r. ⌜ r ≡ record { cells = self; found = Found.Head (self .ends .head) } ⌝ }
+    {
+        let ends = self.ends;
+        let head = ends.head;
+        Hit {
+            cells: self,
+            found: Found::Head(head),
+        }
+    }
+
+    fn read_tail(self) -> Hit
+        ensures { λ r. ⌜ r ≡ record { cells = self; found = Found.Tail (self .ends .tail) } ⌝ }
+    {
+        let ends = self.ends;
+        let tail = ends.tail;
+        Hit {
+            cells: self,
+            found: Found::Tail(tail),
+        }
+    }
+
+    fn read_link(self) -> Hit
+        ensures { λ r. ⌜ r ≡ record { cells = self; found = Found.Link (self .cell .link) } ⌝ }
+    {
+        let cell = self.cell;
+        let link = cell.link;
+        Hit {
+            cells: self,
+            found: Found::Link(link),
+        }
+    }
+
+    fn read_old_tail(self) -> Hit
+        ensures { λ r. ⌜ r ≡ record { cells = self; found = Found.OldTail (self .announcement .«old_tail») } ⌝ }
+    {
+        let announcement = self.announcement;
+        let old = announcement.old_tail;
+        Hit {
+            cells: self,
+            found: Found::OldTail(old),
+        }
+    }
+
     fn cas_link(self, to: u16) -> Hit
         ensures { λ r. ⌜ r ≡ casLink self to (self .cell .link) ⌝ }
     {

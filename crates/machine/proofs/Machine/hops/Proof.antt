@@ -137,8 +137,8 @@ loop-again c =
       goes-on (l .left) (start .args .most) (l .self) (start .args .at) _ (l .inv .1) (omega (arith, turn .loop-test)) (omega (arith, l .inv .0)) hopped (sym (c .if1 .taken) ∙ c .before .goes-on .ensures),
     )
 
-sub-t49 : tie.Need-sub-t49 Inv-loop μ-loop
-sub-t49 c =
+sub-ran-to : tie.Need-sub-ran-to Inv-loop μ-loop
+sub-ran-to c =
     let moved = c .before .before .before .before in
     let made = moved .before .before .before .before .before in
     let aimed = made .before .before .before .before .before in
@@ -147,9 +147,13 @@ sub-t49 c =
     let head = turn .before in
     omega (arith, head .loop .inv .0, turn .loop-test)
 
+ran-to-requires : tie.Need-ran-to-requires Inv-loop μ-loop
+ran-to-requires c κs = search needs
+
 returns : tie.Need-returns Inv-loop μ-loop
 returns c =
-    let moved = c .before .before .before .before in
+    let end = c .before in
+    let moved = end .before .before .before .before in
     let made = moved .before .before .before .before .before in
     let aimed = made .before .before .before .before .before in
     let placed = aimed .before .before .before .before in
@@ -157,11 +161,18 @@ returns c =
     let head = turn .before in
     let start = head .before in
     let l = head .loop in
-    let hopped = hop-law (l .self) (start .args .at) (placed .announcement .ensures .0) (aimed .before .access .ensures) (aimed .node .ensures .0) (made .before .before .before .before .announcement3 .ensures .0) (made .on .ensures) (moved .after .ensures) (c .before .before .before .place .ensures) (c .before .before .at .ensures) in
-    ends (l .left) (start .args .most) (l .self) (start .args .at) _ (l .inv .1) (omega (arith, turn .loop-test)) (omega (arith, l .inv .0)) hopped (sym (c .if1 .left) ∙ c .before .goes-on .ensures)
+    let hopped = hop-law (l .self) (start .args .at) (placed .announcement .ensures .0) (aimed .before .access .ensures) (aimed .node .ensures .0) (made .before .before .before .before .announcement3 .ensures .0) (made .on .ensures) (moved .after .ensures) (end .before .before .before .place .ensures) (end .before .before .at .ensures) in
+    c .ran-to .ensures
+    ∙ ends (l .left) (start .args .most) (l .self) (start .args .at) _ (l .inv .1) (omega (arith, turn .loop-test)) (omega (arith, l .inv .0)) hopped (sym (end .if1 .left) ∙ end .before .goes-on .ensures)
+
+ran-to-requires-2 : tie.Need-ran-to-requires-2 Inv-loop μ-loop
+ran-to-requires-2 c κs = search needs
 
 returns-2 : tie.Need-returns-2 Inv-loop μ-loop
-returns-2 c = let l = c .before .loop in stops (l .left) (c .before .before .args .most) (l .self) (c .before .before .args .at) _ (l .inv .1) (omega arith)
+returns-2 c =
+    let l = c .before .before .loop in
+    let a = c .before .before .before .args in
+    c .ran-to2 .ensures ∙ stops (l .left) (a .most) (l .self) (a .at) _ (l .inv .1) (omega arith)
 
 pub hops-spec : {M : Type 1} → statement M
 hops-spec =
@@ -196,6 +207,8 @@ hops-spec =
     goes-on-requires
     loop-less
     loop-again
-    sub-t49
+    sub-ran-to
+    ran-to-requires
     returns
+    ran-to-requires-2
     returns-2)

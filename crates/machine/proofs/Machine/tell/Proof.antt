@@ -6,11 +6,20 @@ use Rattle.machine.proofs.Machine.tell.Tie as tie
 enum-told : tie.Need-enum-told
 enum-told c = search needs
 
+telling-after-requires : tie.Need-telling-after-requires
+telling-after-requires c κs = search needs
+
 enum-told-2 : tie.Need-enum-told-2
 enum-told-2 c = search needs
 
+telling-after-requires-2 : tie.Need-telling-after-requires-2
+telling-after-requires-2 c κs = search needs
+
 enum-told-3 : tie.Need-enum-told-3
 enum-told-3 c = search needs
+
+telling-after-requires-3 : tie.Need-telling-after-requires-3
+telling-after-requires-3 c κs = search needs
 
 enum-known-after : tie.Need-enum-known-after
 enum-known-after c = search needs
@@ -23,6 +32,9 @@ mul-item c = search needs
 
 element-copy-out-item : tie.Need-element-copy-out-item
 element-copy-out-item c = search needs
+
+telling-after-requires-4 : tie.Need-telling-after-requires-4
+telling-after-requires-4 c κs = search needs
 
 enum-known-after-2 : tie.Need-enum-known-after-2
 enum-known-after-2 c = search needs
@@ -43,16 +55,16 @@ settle-requires-2 : tie.Need-settle-requires-2
 settle-requires-2 c κs = search needs
 
 returns : tie.Need-returns
-returns c = simp (c .enum-told .given .1)
+returns c = simp (c .telling-after .ensures, c .before .enum-told .given .1)
 
 returns-2 : tie.Need-returns-2
-returns-2 c = simp (c .enum-told2 .given .1)
+returns-2 c = simp (c .telling-after2 .ensures, c .before .enum-told2 .given .1)
 
 returns-3 : tie.Need-returns-3
-returns-3 c = simp (c .enum-told3 .given .1)
+returns-3 c = simp (c .telling-after3 .ensures, c .before .enum-told3 .given .1)
 
 returns-4 : tie.Need-returns-4
-returns-4 c = simp (c .before .before .after .given .1)
+returns-4 c = simp (c .telling-after4 .ensures, c .before .before .before .after .given .1)
 
 returns-5 : tie.Need-returns-5
 returns-5 c = simp (c .settle .ensures, c .before .before .before .after2 .given .1)
@@ -65,12 +77,16 @@ tell-spec =
     tie.close
     (tie.spec
     enum-told
+    telling-after-requires
     enum-told-2
+    telling-after-requires-2
     enum-told-3
+    telling-after-requires-3
     enum-known-after
     cast-n
     mul-item
     element-copy-out-item
+    telling-after-requires-4
     enum-known-after-2
     mul-row
     element-copy-out-row

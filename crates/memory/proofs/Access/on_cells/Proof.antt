@@ -1,20 +1,32 @@
--- `memory::Access::on` meets its contract, access by access.
+-- `memory::Access::on_cells` meets its contract, access by access.
 use Rattle.memory.specs.Reach.{on}
 use borrow.Author.Needs.{needs}
-use Rattle.memory.proofs.Access.on.Statement.{statement}
-use Rattle.memory.proofs.Access.on.Tie as tie
+use Rattle.memory.proofs.Access.on_cells.Statement.{statement}
+use Rattle.memory.proofs.Access.on_cells.Tie as tie
 
 enum-told : tie.Need-enum-told
 enum-told c = search needs
 
+read-head-requires : tie.Need-read-head-requires
+read-head-requires c κs = search needs
+
 enum-told-2 : tie.Need-enum-told-2
 enum-told-2 c = search needs
+
+read-tail-requires : tie.Need-read-tail-requires
+read-tail-requires c κs = search needs
 
 enum-told-3 : tie.Need-enum-told-3
 enum-told-3 c = search needs
 
+read-link-requires : tie.Need-read-link-requires
+read-link-requires c κs = search needs
+
 enum-told-4 : tie.Need-enum-told-4
 enum-told-4 c = search needs
+
+read-old-tail-requires : tie.Need-read-old-tail-requires
+read-old-tail-requires c κs = search needs
 
 enum-known-self : tie.Need-enum-known-self
 enum-known-self c = search needs
@@ -48,19 +60,19 @@ announce-requires c κs = search needs
 
 returns : tie.Need-returns
 unfolding on
-returns c = simp (c .before .enum-told .given .1)
+returns c = simp (c .read-head .ensures, c .before .enum-told .given .1)
 
 returns-2 : tie.Need-returns-2
 unfolding on
-returns-2 c = simp (c .before .before .enum-told2 .given .1)
+returns-2 c = simp (c .read-tail .ensures, c .before .enum-told2 .given .1)
 
 returns-3 : tie.Need-returns-3
 unfolding on
-returns-3 c = simp (c .before .enum-told3 .given .1)
+returns-3 c = simp (c .read-link .ensures, c .before .enum-told3 .given .1)
 
 returns-4 : tie.Need-returns-4
 unfolding on
-returns-4 c = simp (c .before .enum-told4 .given .1)
+returns-4 c = simp (c .read-old-tail .ensures, c .before .enum-told4 .given .1)
 
 returns-5 : tie.Need-returns-5
 unfolding on
@@ -82,14 +94,18 @@ returns-9 : tie.Need-returns-9
 unfolding on
 returns-9 c = simp (c .announce .ensures, c .before .before .self5 .given .1)
 
-pub on-spec : {M : Type 1} → statement M
-on-spec =
+pub on-cells-spec : {M : Type 1} → statement M
+on-cells-spec =
     tie.close
     (tie.spec
     enum-told
+    read-head-requires
     enum-told-2
+    read-tail-requires
     enum-told-3
+    read-link-requires
     enum-told-4
+    read-old-tail-requires
     enum-known-self
     cas-link-requires
     enum-known-self-2
