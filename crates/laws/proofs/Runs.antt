@@ -62,7 +62,7 @@ step-counts-one m i k (afterwards.Pair from) = refl
 step-counts-one m i k (afterwards.PairDequeues from taken) = refl
 
 -- to show something of every Run: of none, of one whose first step goes on, and of one whose first step ends the call
-run-induction : (P : ℕ → Machine → Told → Type 0) (i : ℕ)
+pub run-induction : (P : ℕ → Machine → Told → Type 0) (i : ℕ)
     → ((m : Machine) → P 0 m (record { machine = m; answer = More; steps = 0 }))
     → ((n : ℕ) (m : Machine) (x : Told) → isMore (stepOf m i .answer) ≡ true → x ≡ advance (stepOf m i .machine) i n → P n (stepOf m i .machine) x → P (suc n) m (oneMore x))
     → ((n : ℕ) (m : Machine) → isMore (stepOf m i .answer) ≡ false → P (suc n) m (stepOf m i))
