@@ -5,6 +5,7 @@ ghost use lib.ListN.{length};
 use call::answer::Answer;
 use lent::Writing;
 use machine::Machine;
+use machine::SetUp;
 use machine::Told;
 use refusal::Refusal;
 use thread::Place;
@@ -129,7 +130,7 @@ fn put_next(line: &mut [u8], at: usize, machine: Machine, thread: u32) -> usize
     if machine.threads <= thread {
         return put(line, at, b"none");
     }
-    let row = machine.rows[(thread % Machine::THREADS) as usize];
+    let row = machine.rows[(thread % SetUp::THREADS) as usize];
     let place = row.place;
     match place {
         Place::Idle => put(line, at, b"idle"),
