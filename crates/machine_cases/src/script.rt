@@ -13,7 +13,7 @@ pub struct Number {
 }
 
 // The place of the next line end, or the end of the input where no line end is left.
-pub fn line_end(input: &[u8], from: usize) -> usize
+pub(crate) fn line_end(input: &[u8], from: usize) -> usize
     requires { ⌜ from ≤ length (now input) ⌝ }
     ensures { λ r. ⌜ (from ≤ r) × (r ≤ length (now (input .entry))) ⌝ }
 {
@@ -28,7 +28,7 @@ pub fn line_end(input: &[u8], from: usize) -> usize
 }
 
 // False of an empty line.
-pub fn is_comment(line: &[u8]) -> bool {
+pub(crate) fn is_comment(line: &[u8]) -> bool {
     if line.len() == 0 {
         return false;
     }
@@ -37,7 +37,7 @@ pub fn is_comment(line: &[u8]) -> bool {
 
 // The number whose digits stand from a place of a line on, up to a blank or the line's end; 0 where none
 // do.
-pub fn number_at(line: &[u8], from: usize) -> Number {
+pub(crate) fn number_at(line: &[u8], from: usize) -> Number {
     let mut value: u32 = 0;
     let mut at = from;
     while at < line.len() {
@@ -66,7 +66,7 @@ fn with_digit(value: u32, digit: u8) -> u32 {
 }
 
 // By 01's codes; no script has one above 7. The second operand counts where the code has one.
-pub fn entry_of(code: u32, thread: u32, operand: u32) -> Entry {
+pub(crate) fn entry_of(code: u32, thread: u32, operand: u32) -> Entry {
     match code {
         1 => Entry::Enqueue {
             thread,

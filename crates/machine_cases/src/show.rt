@@ -18,7 +18,7 @@ use thread::running::RunStep;
 // A line's room: 511 items take 11 bytes each at most, and what stands before them less than 100.
 const ROOM: usize = 6000;
 
-pub fn set_up(threads: u32, nodes: u32) {
+pub(crate) fn set_up(threads: u32, nodes: u32) {
     io::write_all(1, b"machine ");
     io::print_decimal(1, threads as u64);
     io::write_all(1, b" ");
@@ -26,14 +26,14 @@ pub fn set_up(threads: u32, nodes: u32) {
     io::write_all(1, b"\n");
 }
 
-pub fn refusal(refusal: Refusal) {
+pub(crate) fn refusal(refusal: Refusal) {
     io::write_all(1, b"refused ");
     io::print_decimal(1, refusal.number() as u64);
     io::write_all(1, b"\n");
 }
 
 // What an entry at a place gave, and the thread that it names.
-pub fn entry(place: u32, told: Told, thread: u32) {
+pub(crate) fn entry(place: u32, told: Told, thread: u32) {
     let mut line = [0u8; ROOM];
     entry_in(&mut line, place, told, thread);
 }
