@@ -1,8 +1,8 @@
--- 01, "Refusal numbers", 1 to 8: when each is given. Order within an entry: 1, then 2 or 3, then 8, 4, 5, 6, 7.
+-- 01, "Refusal numbers", 1 to 9: when each is given. Order within an entry: 1, then 2 or 3, then 8, 4, 5, 6, 7.
 use Prim.Native.Nat.{ℕ}
-use mathlib.Core.Bool.{Bool, true, false, not, cond, _&&_}
+use mathlib.Core.Bool.{Bool, true, false, not, cond, _&&_, _||_}
 use lib.Dec.{eqb, ltb, leb}
-use Rattle.refusal.specs.declared.Refusal.the-variants.{NoSuchThread, InCall, NotInCall, NoNode, NoFuture, NoPendingPlace, NoAnnouncement}
+use Rattle.refusal.specs.declared.Refusal.the-variants.{NoSuchThread, InCall, NotInCall, NoNode, NoFuture, NoPendingPlace, NoAnnouncement, SetupOutOfRange}
 use Rattle.thread.specs.declared.Place.{Place}
 use Rattle.row.specs.declared.Row.{Row}
 use Rattle.thread.specs.Place.{idle}
@@ -64,3 +64,7 @@ evaluateNeeds r = record { node = false; future = false; announcement = some (r 
 
 abbrev pub callVerdict : ℕ → ℕ → Row → Used → ℕ → Needs → Verdict
 callVerdict t threads r u nodes n = first (callable t threads (r .place)) (lacking n u nodes (r .count))
+
+-- 9: thread or node number at set-up out of range; 1 to 8 threads, 2 to 512 nodes, the dummy among them
+abbrev pub inRange : ℕ → ℕ → Verdict
+inRange threads nodes = cond (ltb threads 1 || ltb 8 threads || ltb nodes 2 || ltb 512 nodes) (Refused SetupOutOfRange) Accepted

@@ -22,8 +22,8 @@ use Rattle.call.specs.Next.{nextNode, nextFuture, nextAnnouncement}
 use Rattle.call.specs.Refusals.{foreign}
 use Rattle.machine.specs.declared.Machine.{Machine}
 use Rattle.machine.specs.declared.Told.{Told}
-use Rattle.machine.specs.declared.entry.Entry.{Entry}
-use Rattle.machine.specs.declared.entry.Entry.the-variants.{Enqueue, Dequeue, FutureEnqueue, FutureDequeue, Evaluate, Step, Run}
+use Rattle.call.specs.declared.entry.Entry.{Entry}
+use Rattle.call.specs.declared.entry.Entry.the-variants.{Enqueue, Dequeue, FutureEnqueue, FutureDequeue, Evaluate, Step, Run}
 use Rattle.machine.specs.State.{rowAt, noFuture}
 use Rattle.machine.specs.Steps.{stepOf, isMore, oneMore, advance}
 use Rattle.machine.specs.Entries.{refusing, decided, linkedBehind, deferEnqueue, deferDequeue, setOff, startEnqueue, startDequeue, evaluateWaiting, evaluateOwn, evaluateKnown, enqueue, dequeue, futureEnqueue, futureDequeue, evaluate, run, apply}

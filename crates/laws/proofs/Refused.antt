@@ -22,8 +22,8 @@ use Rattle.thread.specs.declared.After.{After}
 use Rattle.thread.specs.declared.After.the-variants as afterwards
 use Rattle.machine.specs.declared.Machine.{Machine}
 use Rattle.machine.specs.declared.Told.{Told}
-use Rattle.machine.specs.declared.entry.Entry.{Entry}
-use Rattle.machine.specs.declared.entry.Entry.the-variants.{Enqueue, Dequeue, FutureEnqueue, FutureDequeue, Evaluate, Step, Run}
+use Rattle.call.specs.declared.entry.Entry.{Entry}
+use Rattle.call.specs.declared.entry.Entry.the-variants.{Enqueue, Dequeue, FutureEnqueue, FutureDequeue, Evaluate, Step, Run}
 use Rattle.machine.specs.State.{rowAt, noFuture}
 use Rattle.machine.specs.Pairing.{pairing, settled}
 use Rattle.call.specs.declared.pairing.Cursor.{Cursor}

@@ -9,7 +9,7 @@ use Rattle.call.specs.declared.answer.Answer.{Answer}
 use Rattle.call.specs.declared.answer.Answer.the-variants.{More}
 use Rattle.machine.specs.declared.Machine.{Machine}
 use Rattle.machine.specs.declared.Told.{Told}
-use Rattle.machine.specs.declared.entry.Entry.the-variants.{Step, Run}
+use Rattle.call.specs.declared.entry.Entry.the-variants.{Step, Run}
 use Rattle.machine.specs.Steps.{hop, tell, stepOf, isMore, oneMore, advance}
 use Rattle.machine.specs.Pairing.{settled}
 use Rattle.machine.specs.Entries.{apply}

@@ -1,10 +1,8 @@
 -- 01, "What the machine is": the machine's parts, the fresh machine, and set-up with refusal 9.
 use Prim.Native.Nat.{ℕ}
-use mathlib.Core.Bool.{false, cond, _||_}
+use mathlib.Core.Bool.{false}
 use mathlib.Core.List.{List}
-use lib.Dec.{ltb}
 use lib.ListN.{getD, set, replicate}
-use Rattle.refusal.specs.declared.Refusal.the-variants.{SetupOutOfRange}
 use Rattle.memory.specs.declared.Ends.{Ends}
 use Rattle.memory.specs.declared.Head.the-variants.{Plain}
 use Rattle.memory.specs.Memory.{Memory, noCell, noFront, noAnnouncement}
@@ -14,8 +12,7 @@ use Rattle.row.specs.Row.{freshRow, noRow}
 use Rattle.call.specs.declared.answer.Item.{Item}
 use Rattle.call.specs.declared.answer.Future.{Future}
 use Rattle.call.specs.declared.answer.Outcome.the-variants.{Waiting}
-use Rattle.call.specs.declared.answer.Verdict.{Verdict}
-use Rattle.call.specs.declared.answer.Verdict.the-variants.{Accepted, Refused}
+use Rattle.call.specs.Refusals.{inRange}
 use Rattle.machine.specs.declared.Machine.{Machine}
 use Rattle.machine.specs.declared.SetUp.{SetUp}
 
@@ -41,10 +38,6 @@ freshMachine threads nodes = record {
   nodes = nodes;
   used = record { nodes = 1; futures = 0; announcements = 0 };
 }
-
--- 1 to 8 threads; 2 to 512 nodes, the dummy among them
-abbrev pub inRange : ℕ → ℕ → Verdict
-inRange threads nodes = cond (ltb threads 1 || ltb 8 threads || ltb nodes 2 || ltb 512 nodes) (Refused SetupOutOfRange) Accepted
 
 abbrev pub setUp : ℕ → ℕ → SetUp
 setUp threads nodes = record { verdict = inRange threads nodes; machine = freshMachine threads nodes }

@@ -3,12 +3,12 @@ ghost use mathlib.Core.Path.{_≡_};
 ghost use Prim.Native.Nat.{_<_, _%_};
 ghost use Rattle.machine.specs.Entries.{linkedBehind, deferEnqueue, deferDequeue, setOff, startEnqueue, startDequeue, evaluateOwn, evaluateWaiting, enqueue, dequeue, futureEnqueue, futureDequeue, evaluate, step, run, apply, refusing, telling};
 use crate::Machine;
-use crate::SetUp;
 use crate::Told;
 use call::answer::Answer;
 use call::answer::Item;
 use call::answer::Outcome;
 use call::answer::Verdict;
+use call::entry::Entry;
 use call::test::Needs;
 use call::test::Used;
 use memory::Cell;
@@ -20,17 +20,6 @@ use thread::batch::BatchStep;
 use thread::dequeue::DequeueStep;
 use thread::dequeues::DequeuesStep;
 use thread::enqueue::EnqueueStep;
-
-// An entry with its operands, as 01's table has them.
-pub enum Entry {
-    Enqueue { thread: u32, item: u32 },
-    Dequeue { thread: u32 },
-    FutureEnqueue { thread: u32, item: u32 },
-    FutureDequeue { thread: u32 },
-    Evaluate { thread: u32, future: u32 },
-    Step { thread: u32 },
-    Run { thread: u32, steps: u32 },
-}
 
 // The machine as it was, with a refusal.
 fn refusing(machine: Machine, refusal: Refusal) -> Told
@@ -183,7 +172,7 @@ impl Machine {
     fn enqueue(self, thread: u32, item: u32) -> Told
         ensures { λ r. ⌜ r ≡ enqueue self thread item ⌝ }
     {
-        let at = (thread % SetUp::THREADS) as usize;
+        let at = (thread % Entry::THREADS) as usize;
         let row = self.rows[at];
         let used = self.used;
         let needs = Needs {
@@ -205,7 +194,7 @@ impl Machine {
     fn dequeue(self, thread: u32) -> Told
         ensures { λ r. ⌜ r ≡ dequeue self thread ⌝ }
     {
-        let at = (thread % SetUp::THREADS) as usize;
+        let at = (thread % Entry::THREADS) as usize;
         let row = self.rows[at];
         let tally = row.tally;
         let used = self.used;
@@ -225,7 +214,7 @@ impl Machine {
     fn future_enqueue(self, thread: u32, item: u32) -> Told
         ensures { λ r. ⌜ r ≡ futureEnqueue self thread item ⌝ }
     {
-        let at = (thread % SetUp::THREADS) as usize;
+        let at = (thread % Entry::THREADS) as usize;
         let row = self.rows[at];
         let used = self.used;
         let needs = Needs {
@@ -247,7 +236,7 @@ impl Machine {
     fn future_dequeue(self, thread: u32) -> Told
         ensures { λ r. ⌜ r ≡ futureDequeue self thread ⌝ }
     {
-        let at = (thread % SetUp::THREADS) as usize;
+        let at = (thread % Entry::THREADS) as usize;
         let row = self.rows[at];
         let used = self.used;
         let needs = Needs {
@@ -269,7 +258,7 @@ impl Machine {
     fn evaluate(self, thread: u32, future: u32) -> Told
         ensures { λ r. ⌜ r ≡ evaluate self thread future ⌝ }
     {
-        let at = (thread % SetUp::THREADS) as usize;
+        let at = (thread % Entry::THREADS) as usize;
         let number = (future % Used::FUTURES) as u16;
         let row = self.rows[at];
         let place = row.place;
@@ -292,7 +281,7 @@ impl Machine {
     fn run(self, thread: u32, steps: u32) -> Told
         ensures { λ r. ⌜ r ≡ run self thread steps ⌝ }
     {
-        let at = (thread % SetUp::THREADS) as usize;
+        let at = (thread % Entry::THREADS) as usize;
         let row = self.rows[at];
         let place = row.place;
         let verdict = call::test::steppable(thread, self.threads, place);

@@ -11,7 +11,7 @@ pub mod hand_out;
 pub mod pairing;
 
 ghost use mathlib.Core.Path.{_≡_};
-ghost use Rattle.machine.specs.State.{endsAtTheDummy, freshMachine, inRange, setUp, withRow};
+ghost use Rattle.machine.specs.State.{endsAtTheDummy, freshMachine, setUp, withRow};
 ghost use Prim.Native.Nat.{_<_};
 ghost use Rattle.memory.specs.Memory.{noAnnouncement};
 use call::answer::Answer;
@@ -31,7 +31,6 @@ use memory::Link;
 use memory::OldTail;
 use memory::Request;
 use memory::Tail;
-use refusal::Refusal;
 use row::Row;
 use tally::Tally;
 
@@ -53,12 +52,6 @@ pub struct Machine {
 pub struct SetUp {
     pub verdict: Verdict,
     pub machine: Machine,
-}
-
-impl SetUp {
-    pub const THREADS: u32 = 8;
-
-    pub const NODES: u32 = 512;
 }
 
 // The machine after an entry, its answer, and the steps that it took.
@@ -109,7 +102,7 @@ impl Machine {
         ensures { λ r. ⌜ r ≡ setUp threads nodes ⌝ }
     {
         SetUp {
-            verdict: in_range(threads, nodes),
+            verdict: call::entry::in_range(threads, nodes),
             machine: Machine::fresh(threads, nodes),
         }
     }
@@ -153,22 +146,4 @@ fn unused_announcement() -> Announcement
         },
         old_tail: OldTail::Unset,
     }
-}
-
-fn in_range(threads: u32, nodes: u32) -> Verdict
-    ensures { λ r. ⌜ r ≡ inRange threads nodes ⌝ }
-{
-    if threads < 1 {
-        return Verdict::Refused(Refusal::SetupOutOfRange);
-    }
-    if SetUp::THREADS < threads {
-        return Verdict::Refused(Refusal::SetupOutOfRange);
-    }
-    if nodes < 2 {
-        return Verdict::Refused(Refusal::SetupOutOfRange);
-    }
-    if SetUp::NODES < nodes {
-        return Verdict::Refused(Refusal::SetupOutOfRange);
-    }
-    Verdict::Accepted
 }

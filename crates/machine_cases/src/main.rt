@@ -5,8 +5,8 @@ mod script;
 mod show;
 
 use call::answer::Verdict;
+use call::entry::Entry;
 use machine::Machine;
-use machine::entry::Entry;
 
 // The machine, and the place of the next entry since its set-up.
 struct Session {

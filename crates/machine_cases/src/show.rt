@@ -3,9 +3,9 @@
 ghost use Prim.Native.Nat.{_≤_};
 ghost use lib.ListN.{length};
 use call::answer::Answer;
+use call::entry::Entry;
 use lent::Writing;
 use machine::Machine;
-use machine::SetUp;
 use machine::Told;
 use refusal::Refusal;
 use thread::Place;
@@ -130,7 +130,7 @@ fn put_next(line: &mut [u8], at: usize, machine: Machine, thread: u32) -> usize
     if machine.threads <= thread {
         return put(line, at, b"none");
     }
-    let row = machine.rows[(thread % SetUp::THREADS) as usize];
+    let row = machine.rows[(thread % Entry::THREADS) as usize];
     let place = row.place;
     match place {
         Place::Idle => put(line, at, b"idle"),

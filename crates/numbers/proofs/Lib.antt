@@ -2,3 +2,4 @@ pub mod GroupByGroup
 pub mod WrittenGroups
 pub mod RoundTrip
 pub mod OneEncoding
+pub mod Within

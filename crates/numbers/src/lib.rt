@@ -110,13 +110,15 @@ pub fn write(buf: &mut [u8], n: u32) -> Writing
     let groups = groups_of(n);
     let bytes = groups.bytes;
     let count = groups.count;
-    if buf.len() < count {
-        return Writing::Refused {
-            refusal: Refusal::NoRoom,
-        };
-    }
-    bytes::copy(&bytes[..count], buf);
-    Writing::Wrote { count }
+    lent::put(buf, &bytes[..count])
+}
+
+// How many bytes n takes.
+pub fn count(n: u32) -> usize
+    ensures { λ r. ⌜ r ≡ length (groupsOf n) ⌝ }
+{
+    let groups = groups_of(n);
+    groups.count
 }
 
 fn groups_of(n: u32) -> Groups

@@ -1,7 +1,7 @@
--- `machine::in_range` meets its contract, test by test.
+-- `call::entry::in_range` meets its contract, test by test.
 use borrow.Author.Tests.{lt-ltb, le-ltb}
-use Rattle.machine.proofs.in_range.Statement.{statement}
-use Rattle.machine.proofs.in_range.Tie as tie
+use Rattle.call.proofs.entry.in_range.Statement.{statement}
+use Rattle.call.proofs.entry.in_range.Tie as tie
 
 returns : tie.Need-returns
 returns c = simp (lt-ltb _ _ (c .if1 .taken))

@@ -1,0 +1,88 @@
+-- A listing told piece by piece: what each call writes, and how far the schedule has then been told.
+-- The entries' places are 32 bits wide; no counted input has as many.
+use Prim.Native.Nat.{ℕ, zero, suc, _+_, _%_, _^_}
+use mathlib.Core.Bool.{true, false, cond}
+use mathlib.Core.List.{List, [], _++_}
+use lib.ListN.{length}
+use Rattle.refusal.specs.declared.Refusal.{Refusal}
+use Rattle.call.specs.declared.entry.Entry.{Entry}
+use Rattle.call.specs.declared.answer.Answer.the-variants as answer
+use Rattle.call.specs.declared.answer.Verdict.{Verdict}
+use Rattle.call.specs.declared.answer.Verdict.the-variants.{Accepted, Refused}
+use Rattle.schedule.specs.declared.read.SetUpReading.{SetUpReading}
+use Rattle.schedule.specs.declared.read.SetUpReading.the-variants as setup
+use Rattle.schedule.specs.declared.read.EntryReading.{EntryReading}
+use Rattle.schedule.specs.declared.read.EntryReading.the-variants as entry
+use Rattle.schedule.specs.Read.{setUpOf, entryAt}
+use Rattle.machine.specs.declared.Machine.{Machine}
+use Rattle.machine.specs.declared.Told.{Told}
+use Rattle.machine.specs.State.{freshMachine}
+use Rattle.machine.specs.Entries.{apply}
+use Rattle.machine.specs.Contents.{contents, depth}
+use Rattle.listing.specs.declared.Listing.{Listing}
+use Rattle.listing.specs.declared.Opened.{Opened}
+use Rattle.listing.specs.declared.Lines.{Lines}
+use Rattle.listing.specs.Text.{entryText, setUpText, refusedText, queueText}
+use Rattle.listing.specs.Listing.{entryLine}
+
+-- some text, and the listing after it
+pub record Piece : Type 0 where
+  pub text : List ℕ
+  pub after : Listing
+
+abbrev pub told : Piece → Lines
+told p = record { listing = p .after; count = length (p .text) }
+
+-- the set-up
+abbrev pub beginning : Machine → ℕ → Listing
+beginning m from = record { machine = m; from = from; place = 0; going = true }
+
+abbrev pub openedBy : SetUpReading → Opened
+openedBy (setup.Refused r) = record { verdict = Refused r; listing = beginning (freshMachine 0 0) 0 }
+openedBy (setup.SetUp threads nodes next) = record { verdict = Accepted; listing = beginning (freshMachine threads nodes) next }
+
+abbrev pub opened : List ℕ → Opened
+opened s = openedBy (setUpOf s)
+
+abbrev pub firstText : Verdict → Machine → List ℕ
+firstText Accepted m = setUpText (m .threads) (m .nodes)
+firstText (Refused r) m = refusedText r
+
+abbrev pub firstLine : Opened → List ℕ
+firstLine o = firstText (o .verdict) (o .listing .machine)
+
+-- the next entry's line
+abbrev pub stopped : Listing → Listing
+stopped l = record { machine = l .machine; from = l .from; place = l .place; going = false }
+
+abbrev pub refusedAt : Listing → Refusal → Piece
+refusedAt l r = record { text = entryText (l .place) (answer.Refused r) 0 (depth (l .machine)); after = stopped l }
+
+abbrev pub afterEntry : Listing → ℕ → Told → Piece
+afterEntry l n t = record {
+  text = entryLine (l .place) t;
+  after = record { machine = t .machine; from = l .from + n; place = (l .place + 1) % 2 ^ 32; going = true };
+}
+
+abbrev pub entered : Listing → Entry → ℕ → Piece
+entered l e n = afterEntry l n (apply (l .machine) e)
+
+abbrev pub byReading : EntryReading → Listing → Piece
+byReading entry.End l = record { text = []; after = stopped l }
+byReading (entry.Refused r) l = refusedAt l r
+byReading (entry.Entry e n) l = entered l e n
+
+unfoldable pub nextLine : List ℕ → Listing → Piece
+nextLine s l = byReading (entryAt s (l .from)) l
+
+-- the lines of the next entries, n at most
+abbrev pub before : Piece → Piece → Piece
+before p q = record { text = p .text ++ q .text; after = q .after }
+
+unfoldable pub lines : ℕ → List ℕ → Listing → Piece
+lines zero s l = record { text = []; after = l }
+lines (suc n) s l = cond (l .going) (before (nextLine s l) (lines n s (nextLine s l .after))) (record { text = []; after = l })
+
+-- what the queue holds
+abbrev pub lastLine : Listing → List ℕ
+lastLine l = queueText (contents (l .machine))

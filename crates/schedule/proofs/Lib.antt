@@ -1,0 +1,5 @@
+pub mod HandedUp
+pub mod Codes
+pub mod Ways
+pub mod Within
+pub mod Behind

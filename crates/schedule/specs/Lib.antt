@@ -1,0 +1,4 @@
+pub mod Codes
+pub mod Read
+pub mod Write
+pub mod Schedule
