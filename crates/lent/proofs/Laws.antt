@@ -4,6 +4,7 @@ use mathlib.Core.Path.{_≡_, refl, sym, ap, ap₂, _∙_}
 use mathlib.Core.Bool.{Bool, true, false, cond}
 use mathlib.Core.List.{List, [], _++_, append-assoc, append-nil}
 use native.Mathlib.Omega.{arith}
+use native.Mathlib.Decide.{decLe}
 use lib.Dec.{leb}
 use lib.ListN.{length, take, drop, length-append, length-drop, take-append-drop, drop-of-length-le}
 use lib.Seq.{take-append-seam, drop-append-seam, take-all, take-at, drop-at, drop-drop, length-take-le}
@@ -44,6 +45,13 @@ module _ {A : Type 0} (l buf : List A) where
           let count : length l ≡ n = cc in
           rw (← count) (take-append-seam l (drop (length l) buf), drop-append-seam l (drop (length l) buf))
       go false e = absurd (let z : _≡_ {A = ℕ} 0 1 = cc in omega arith)
+
+  -- it answers how much was written, which had room
+  pub accepted-fits : (n : ℕ) → writing l buf ≡ Wrote n → (n ≡ length l) × (n ≤ length buf)
+  accepted-fits n e = elim (decLe (length l) (length buf)) [
+    | yes h ↦ let count : length l ≡ n = cc (writing-fits h) in (sym count, omega arith)
+    | no h ↦ absurd (let z : _≡_ {A = ℕ} 0 1 = cc (writing-short (omega arith)) in omega arith)
+  ]
 
 -- pieces that are written one behind the other
 module _ {A : Type 0} (at : ℕ) (l buf : List A) (fits : at + length l ≤ length buf) where

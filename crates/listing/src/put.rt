@@ -1,6 +1,6 @@
 // Pieces of text, each put at a place of a buffer where it fits. Each answers the place behind it.
 ghost use mathlib.Core.Path.{_≡_};
-ghost use Prim.Native.Nat.{_+_, _≤_};
+ghost use Prim.Native.Nat.{_+_, _*_, _≤_};
 ghost use lib.ListN.{length, take};
 ghost use Rattle.lent.specs.Lent.{writtenAt};
 ghost use Rattle.listing.specs.Text.{decimal, field, fields, wordField, entryText, setUpText, refusedText, queueText};
@@ -99,7 +99,7 @@ pub(crate) fn queue_line(line: &mut [u8], items: &[u32], count: usize) -> usize
 }
 
 fn fields(line: &mut [u8], at: usize, items: &[u32], count: usize) -> usize
-    requires { ⌜ (count ≤ length (now items)) × (at + 11 * count ≤ length (now line)) ⌝ }
+    requires { ⌜ (count ≤ length (now items)) × (count ≤ 512) × (at + 11 * count ≤ length (now line)) ⌝ }
     ensures { λ r. ⌜ (r ≡ at + length (fields (take count (now (items .entry))))) × (now (line .exit) ≡ writtenAt at (fields (take count (now (items .entry)))) (now (line .entry))) ⌝ }
 {
     let mut end = at;

@@ -49,5 +49,5 @@ fn run_long(line: &[u8]) {
 fn list(line: &[u8], words: usize, shown: u32) -> show::Sums {
     let mut bytes = io::large_buffer();
     let count = script::bytes_of(line, words, &mut bytes);
-    show::listing(&bytes[..count], shown)
+    show::listing(&bytes[0..count], shown)
 }

@@ -88,17 +88,20 @@ impl Sums {
     // No line is longer than the buffers here, so none is refused.
     fn tell(self, out: &[u8], writing: Writing, shown: bool) -> Sums {
         match writing {
-            Writing::Wrote { count } => {
-                if count <= out.len() {
-                    return self.text(&out[..count], shown);
-                }
-                self
-            }
+            Writing::Wrote { count } => self.tell_first(out, count, shown),
             Writing::Refused { refusal: _ } => self,
         }
     }
 
-    fn text(self, text: &[u8], shown: bool) -> Sums {
+    // The first bytes of a buffer, which has as many.
+    fn tell_first(self, out: &[u8], count: usize, shown: bool) -> Sums {
+        if out.len() < count {
+            return self;
+        }
+        self.tell_text(&out[0..count], shown)
+    }
+
+    fn tell_text(self, text: &[u8], shown: bool) -> Sums {
         if shown {
             io::write_all(1, text);
         }

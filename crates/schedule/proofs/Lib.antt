@@ -3,3 +3,7 @@ pub mod Codes
 pub mod Ways
 pub mod Within
 pub mod Behind
+pub mod RoundTrip
+pub mod Written
+pub mod Endings
+pub mod OneEncoding

@@ -1,0 +1,5 @@
+pub mod Decimals
+pub mod Lengths
+pub mod Items
+pub mod Telling
+pub mod Blocks
