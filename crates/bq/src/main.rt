@@ -65,7 +65,7 @@ fn write(out: &[u8], writing: Writing) {
     match writing {
         Writing::Wrote { count } => {
             if count <= out.len() {
-                io::write_all(1, &out[..count]);
+                io::write_all(1, &out[0..count]);
             }
         }
         Writing::Refused { refusal: _ } => {}

@@ -32,12 +32,18 @@ pub entry-few : (place : ℕ) (a : Answer) (steps depth : ℕ) → length (entry
 unfolding entryText
 entry-few place a steps depth =
     omega (
-      arith, decimal-few place, word-few a, field-few (value a), field-few steps, field-few depth,
+      arith,
+      decimal-few place,
+      word-few a,
+      field-few (value a),
+      field-few steps,
+      field-few depth,
       length-append (decimal place) (wordField a ++ (field (value a) ++ (field steps ++ (field depth ++ lineEnd)))),
       length-append (wordField a) (field (value a) ++ (field steps ++ (field depth ++ lineEnd))),
       length-append (field (value a)) (field steps ++ (field depth ++ lineEnd)),
       length-append (field steps) (field depth ++ lineEnd),
-      length-append (field depth) lineEnd)
+      length-append (field depth) lineEnd,
+    )
 
 pub set-up-few : (threads nodes : ℕ) → length (setUpText threads nodes) ≤ 25
 unfolding setUpText

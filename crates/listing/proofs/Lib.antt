@@ -3,3 +3,4 @@ pub mod Lengths
 pub mod Items
 pub mod Telling
 pub mod Blocks
+pub mod Whole

@@ -40,5 +40,5 @@ afterSetUp s (setup.SetUp threads nodes next) = setUpText threads nodes ++ allLi
 abbrev pub counted : List ℕ → List ℕ
 counted s = take 65536 s
 
-pub listing : List ℕ → List ℕ
+unfoldable pub listing : List ℕ → List ℕ
 listing s = afterSetUp (counted s) (setUpOf (counted s))

@@ -23,7 +23,7 @@ use Rattle.listing.specs.declared.Listing.{Listing}
 use Rattle.listing.specs.declared.Opened.{Opened}
 use Rattle.listing.specs.declared.Lines.{Lines}
 use Rattle.listing.specs.Text.{entryText, setUpText, refusedText, queueText}
-use Rattle.listing.specs.Listing.{entryLine}
+use Rattle.listing.specs.Listing.{entryLine, counted}
 
 -- some text, and the listing after it
 pub record Piece : Type 0 where
@@ -42,7 +42,7 @@ openedBy (setup.Refused r) = record { verdict = Refused r; listing = beginning (
 openedBy (setup.SetUp threads nodes next) = record { verdict = Accepted; listing = beginning (freshMachine threads nodes) next }
 
 abbrev pub opened : List ℕ → Opened
-opened s = openedBy (setUpOf s)
+opened s = openedBy (setUpOf (counted s))
 
 abbrev pub firstText : Verdict → Machine → List ℕ
 firstText Accepted m = setUpText (m .threads) (m .nodes)

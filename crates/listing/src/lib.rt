@@ -7,6 +7,7 @@ ghost use mathlib.Core.Path.{_≡_};
 ghost use Prim.Native.Nat.{_+_, _/_, _^_, _≤_, _<_};
 ghost use lib.ListN.{length};
 ghost use Rattle.lent.specs.Lent.{writing, written, writtenAt};
+ghost use Rattle.listing.specs.Listing.{counted};
 ghost use Rattle.listing.specs.Pieces.{opened, firstLine, lastLine, beginning, stopped, refusedAt, entered, nextLine, lines, told};
 use call::answer::Answer;
 use call::answer::Verdict;
@@ -38,12 +39,22 @@ pub struct Lines {
     pub count: usize,
 }
 
+// Of longer input only the first 65,536 bytes count.
+fn counted(s: &[u8]) -> &[u8]
+    ensures { λ r. ⌜ now r ≡ counted (now (s .entry)) ⌝ }
+{
+    if s.len() <= Listing::BYTES {
+        return s;
+    }
+    &s[..Listing::BYTES]
+}
+
 impl Opened {
     // The set-up of a schedule.
     pub fn of(s: &[u8]) -> Opened
         ensures { λ r. ⌜ r ≡ opened (now (s .entry)) ⌝ }
     {
-        let reading = schedule::read::set_up(s);
+        let reading = schedule::read::set_up(counted(s));
         match reading {
             SetUpReading::Refused { refusal } => {
                 let listing = Listing::at(Machine::fresh(0, 0), 0);
@@ -89,6 +100,9 @@ impl Opened {
 }
 
 impl Listing {
+    // How many bytes of a schedule count.
+    pub const BYTES: usize = 65536;
+
     // Room for the longest line of an entry, and for the longest of what the queue holds.
     pub const LINE: usize = 64;
 
@@ -107,14 +121,15 @@ impl Listing {
 
     // Writes the lines of the next entries at the start of out, as many as find room at LINE bytes each.
     pub fn lines(self, s: &[u8], out: &mut [u8]) -> Lines
-        ensures { λ r. ⌜ (r ≡ told (lines (length (now (out .entry)) / 64) (now (s .entry)) self)) × (now (out .exit) ≡ written (lines (length (now (out .entry)) / 64) (now (s .entry)) self .text) (now (out .entry))) ⌝ }
+        ensures { λ r. ⌜ (r ≡ told (lines (length (now (out .entry)) / 64) (counted (now (s .entry))) self)) × (now (out .exit) ≡ written (lines (length (now (out .entry)) / 64) (counted (now (s .entry))) self .text) (now (out .entry))) ⌝ }
     {
+        let input = counted(s);
         let mut listing = self;
         let mut at = 0;
         let mut left = out.len() / Listing::LINE;
         while 0 < left {
             if listing.going {
-                let next = listing.next_line(s, out, at);
+                let next = listing.next_line(input, out, at);
                 at += next.count;
                 listing = next.listing;
                 left -= 1;

@@ -44,10 +44,12 @@ fn run_long(line: &[u8]) {
     sums.show();
 }
 
-// The schedule of a line, whose words begin at a place. As in the listing program no more than 65,536
-// bytes of it count: what finds no room is left out.
+// Room for more bytes than count of a schedule.
+const ROOM: usize = 70000;
+
+// The schedule of a line, whose words begin at a place.
 fn list(line: &[u8], words: usize, shown: u32) -> show::Sums {
-    let mut bytes = io::large_buffer();
+    let mut bytes = [0u8; ROOM];
     let count = script::bytes_of(line, words, &mut bytes);
     show::listing(&bytes[0..count], shown)
 }

@@ -1,13 +1,12 @@
 -- `listing::Opened::of` meets its contract, by what was read.
-use mathlib.Core.Path.{_≡_, sym, ap, _∙_}
-use Rattle.schedule.specs.declared.read.SetUpReading.{SetUpReading}
+use mathlib.Core.Path.{sym, ap, _∙_}
 use Rattle.schedule.specs.Read.{setUpOf}
-use Rattle.machine.specs.declared.Machine.{Machine}
-use Rattle.machine.specs.State.{freshMachine}
-use Rattle.listing.specs.Pieces.{openedBy}
 use borrow.Author.Needs.{needs}
 use Rattle.listing.proofs.Opened.of.Statement.{statement}
 use Rattle.listing.proofs.Opened.of.Tie as tie
+
+counted-requires : tie.Need-counted-requires
+counted-requires c κs = search needs
 
 set-up-requires : tie.Need-set-up-requires
 set-up-requires c κs = search needs
@@ -31,15 +30,16 @@ at-requires-2 : tie.Need-at-requires-2
 at-requires-2 c κs = search needs
 
 returns : tie.Need-returns
-returns c = rw (sym (c .before .before .before .before .before .set-up .ensures) ∙ c .before .before .before .reading .given .1) (simp (c .at .ensures, c .before .fresh .ensures))
+returns c = rw (sym (c .before .before .before .before .before .set-up .ensures ∙ ap setUpOf (c .before .before .before .before .before .before .counted .ensures)) ∙ c .before .before .before .reading .given .1) (simp (c .at .ensures, c .before .fresh .ensures))
 
 returns-2 : tie.Need-returns-2
-returns-2 c = rw (sym (c .before .before .before .before .before .set-up .ensures) ∙ c .before .before .before .reading2 .given .1) (simp (c .at2 .ensures, c .before .fresh2 .ensures))
+returns-2 c = rw (sym (c .before .before .before .before .before .set-up .ensures ∙ ap setUpOf (c .before .before .before .before .before .before .counted .ensures)) ∙ c .before .before .before .reading2 .given .1) (simp (c .at2 .ensures, c .before .fresh2 .ensures))
 
 pub of-spec : {M : Type 1} → statement M
 of-spec =
     tie.close
     (tie.spec
+    counted-requires
     set-up-requires
     enum-known-reading
     fresh-requires

@@ -27,14 +27,32 @@ field-requires c κs =
 field-requires-2 : tie.Need-field-requires-2
 field-requires-2 c κs =
     omega (
-      arith, decimal-few (c .before .before .before .before .before .before .before .before .before .before .before .before .before .before .before .args .place), word-few (c .before .before .before .before .before .before .before .before .before .before .before .before .before .before .before .args .answer), field-few (c .before .before .before .before .value .result), field-few (c .before .before .before .before .before .before .before .before .before .before .before .before .before .before .before .args .steps),
-      c .before .before .before .before .before .before .before .before .before .before .before .before .number .ensures .0, c .before .before .before .before .before .before .before .before .word .ensures .0, c .before .before .before .field .ensures .0, c .before .before .before .before .before .before .before .before .before .before .before .before .before .before .before .pre)
+      arith,
+      decimal-few (c .before .before .before .before .before .before .before .before .before .before .before .before .before .before .before .args .place),
+      word-few (c .before .before .before .before .before .before .before .before .before .before .before .before .before .before .before .args .answer),
+      field-few (c .before .before .before .before .value .result),
+      field-few (c .before .before .before .before .before .before .before .before .before .before .before .before .before .before .before .args .steps),
+      c .before .before .before .before .before .before .before .before .before .before .before .before .number .ensures .0,
+      c .before .before .before .before .before .before .before .before .word .ensures .0,
+      c .before .before .before .field .ensures .0,
+      c .before .before .before .before .before .before .before .before .before .before .before .before .before .before .before .pre,
+    )
 
 field-requires-3 : tie.Need-field-requires-3
 field-requires-3 c κs =
     omega (
-      arith, decimal-few (c .before .before .before .before .before .before .before .before .before .before .before .before .before .before .before .before .before .before .before .args .place), word-few (c .before .before .before .before .before .before .before .before .before .before .before .before .before .before .before .before .before .before .before .args .answer), field-few (c .before .before .before .before .before .before .before .before .value .result), field-few (c .before .before .before .before .before .before .before .before .before .before .before .before .before .before .before .before .before .before .before .args .steps), field-few (c .before .before .before .before .before .before .before .before .before .before .before .before .before .before .before .before .before .before .before .args .depth),
-      c .before .before .before .before .before .before .before .before .before .before .before .before .before .before .before .before .number .ensures .0, c .before .before .before .before .before .before .before .before .before .before .before .before .word .ensures .0, c .before .before .before .before .before .before .before .field .ensures .0, c .before .before .before .field2 .ensures .0, c .before .before .before .before .before .before .before .before .before .before .before .before .before .before .before .before .before .before .before .pre)
+      arith,
+      decimal-few (c .before .before .before .before .before .before .before .before .before .before .before .before .before .before .before .before .before .before .before .args .place),
+      word-few (c .before .before .before .before .before .before .before .before .before .before .before .before .before .before .before .before .before .before .before .args .answer),
+      field-few (c .before .before .before .before .before .before .before .before .value .result),
+      field-few (c .before .before .before .before .before .before .before .before .before .before .before .before .before .before .before .before .before .before .before .args .steps),
+      field-few (c .before .before .before .before .before .before .before .before .before .before .before .before .before .before .before .before .before .before .before .args .depth),
+      c .before .before .before .before .before .before .before .before .before .before .before .before .before .before .before .before .number .ensures .0,
+      c .before .before .before .before .before .before .before .before .before .before .before .before .word .ensures .0,
+      c .before .before .before .before .before .before .before .field .ensures .0,
+      c .before .before .before .field2 .ensures .0,
+      c .before .before .before .before .before .before .before .before .before .before .before .before .before .before .before .before .before .before .before .pre,
+    )
 
 slice-aggregate-text : tie.Need-slice-aggregate-text
 slice-aggregate-text c = search needs
@@ -42,8 +60,19 @@ slice-aggregate-text c = search needs
 text-requires : tie.Need-text-requires
 text-requires c κs =
     omega (
-      arith, decimal-few (c .before .before .before .before .before .before .before .before .before .before .before .before .before .before .before .before .before .before .before .before .before .before .before .before .args .place), word-few (c .before .before .before .before .before .before .before .before .before .before .before .before .before .before .before .before .before .before .before .before .before .before .before .before .args .answer), field-few (c .before .before .before .before .before .before .before .before .before .before .before .before .before .value .result), field-few (c .before .before .before .before .before .before .before .before .before .before .before .before .before .before .before .before .before .before .before .before .before .before .before .before .args .steps), field-few (c .before .before .before .before .before .before .before .before .before .before .before .before .before .before .before .before .before .before .before .before .before .before .before .before .args .depth),
-      c .before .before .before .before .before .before .before .before .before .before .before .before .before .before .before .before .before .before .before .before .before .number .ensures .0, c .before .before .before .before .before .before .before .before .before .before .before .before .before .before .before .before .before .word .ensures .0, c .before .before .before .before .before .before .before .before .before .before .before .before .field .ensures .0, c .before .before .before .before .before .before .before .before .field2 .ensures .0, c .before .before .before .before .field3 .ensures .0, c .before .before .before .before .before .before .before .before .before .before .before .before .before .before .before .before .before .before .before .before .before .before .before .before .pre)
+      arith,
+      decimal-few (c .before .before .before .before .before .before .before .before .before .before .before .before .before .before .before .before .before .before .before .before .before .before .before .before .args .place),
+      word-few (c .before .before .before .before .before .before .before .before .before .before .before .before .before .before .before .before .before .before .before .before .before .before .before .before .args .answer),
+      field-few (c .before .before .before .before .before .before .before .before .before .before .before .before .before .value .result),
+      field-few (c .before .before .before .before .before .before .before .before .before .before .before .before .before .before .before .before .before .before .before .before .before .before .before .before .args .steps),
+      field-few (c .before .before .before .before .before .before .before .before .before .before .before .before .before .before .before .before .before .before .before .before .before .before .before .before .args .depth),
+      c .before .before .before .before .before .before .before .before .before .before .before .before .before .before .before .before .before .before .before .before .before .number .ensures .0,
+      c .before .before .before .before .before .before .before .before .before .before .before .before .before .before .before .before .before .word .ensures .0,
+      c .before .before .before .before .before .before .before .before .before .before .before .before .field .ensures .0,
+      c .before .before .before .before .before .before .before .before .field2 .ensures .0,
+      c .before .before .before .before .field3 .ensures .0,
+      c .before .before .before .before .before .before .before .before .before .before .before .before .before .before .before .before .before .before .before .before .before .before .before .before .pre,
+    )
 
 same-length : tie.Need-same-length
 same-length c = search needs
@@ -54,8 +83,8 @@ returns c =
     let a = c .before .before .before .before .before .before .before .before .before .before .before .before .before .before .before .before .before .before .before .before .before .before .before .before .before .before .before .args in
     let shown = rw (c .before .before .before .before .before .before .before .before .before .before .before .before .before .before .before .before .value .ensures) at (c .before .before .before .before .before .before .before .before .before .before .before .before .before .before .before .field .ensures) in
     let parts =
-        and (put (c .before .before .before .before .before .before .before .before .before .before .before .before .before .before .before .before .before .before .before .before .before .before .before .before .number .ensures)) (and (put (c .before .before .before .before .before .before .before .before .before .before .before .before .before .before .before .before .before .before .before .before .word .ensures)) (and (put shown)
-        (and (put (c .before .before .before .before .before .before .before .before .before .before .before .field2 .ensures)) (and (put (c .before .before .before .before .before .before .before .field3 .ensures)) (and (put (c .before .before .text .ensures)) none))))) in
+    and (put (c .before .before .before .before .before .before .before .before .before .before .before .before .before .before .before .before .before .before .before .before .before .before .before .before .number .ensures)) (and (put (c .before .before .before .before .before .before .before .before .before .before .before .before .before .before .before .before .before .before .before .before .word .ensures)) (and (put shown)
+    (and (put (c .before .before .before .before .before .before .before .before .before .before .before .field2 .ensures)) (and (put (c .before .before .before .before .before .before .before .field3 .ensures)) (and (put (c .before .before .text .ensures)) none))))) in
     let texts : List (List ℕ) = decimal (a .place) ∷ wordField (a .answer) ∷ field (value (a .answer)) ∷ field (a .steps) ∷ field (a .depth) ∷ lineEnd ∷ [] in
     contract (all-put texts (omega (arith, entry-few (a .place) (a .answer) (a .steps) (a .depth), c .before .before .before .before .before .before .before .before .before .before .before .before .before .before .before .before .before .before .before .before .before .before .before .before .before .before .before .pre)) parts)
 

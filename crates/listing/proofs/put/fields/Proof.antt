@@ -44,8 +44,12 @@ field-requires c κs =
     let a = c .before .before .before .before .before .before .args in
     let l = c .before .before .before .loop in
     omega (
-      arith, room (a .at) (a .count) (l .i) (a .items .now) (a .line .now) (c .before .before .before .before .before .before .pre .0) (c .before .before .before .before .before .before .pre .2) (c .before .before .loop-test .taken), l .inv .1 .place,
-      same (a .at) (a .count) (l .i) (a .items .now) (a .line .now) (c .before .before .before .before .before .before .pre .0) (c .before .before .before .before .before .before .pre .2) (l .inv .0) (l .inv .1), field-few (getD (a .items .now) (l .i) 0))
+      arith,
+      room (a .at) (a .count) (l .i) (a .items .now) (a .line .now) (c .before .before .before .before .before .before .pre .0) (c .before .before .before .before .before .before .pre .2) (c .before .before .loop-test .taken),
+      l .inv .1 .place,
+      same (a .at) (a .count) (l .i) (a .items .now) (a .line .now) (c .before .before .before .before .before .before .pre .0) (c .before .before .before .before .before .before .pre .2) (l .inv .0) (l .inv .1),
+      field-few (getD (a .items .now) (l .i) 0),
+    )
 
 add-i : tie.Need-add-i Inv-loop μ-loop
 add-i c = record { fits = omega (arith, c .before .before .before .before .before .before .before .before .before .pre .1, c .before .before .before .before .before .loop-test .taken) }

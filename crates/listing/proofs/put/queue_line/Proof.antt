@@ -28,7 +28,15 @@ text-requires-2 : tie.Need-text-requires-2
 text-requires-2 c κs =
     let a = c .before .before .before .before .before .before .before .before .before .before .before .before .before .args in
     omega (
-      arith, c .before .before .before .before .before .before .before .before .before .before .before .before .before .pre .0, c .before .before .before .before .before .before .before .before .before .before .before .before .before .pre .1, c .before .before .before .before .before .before .before .before .before .before .before .before .before .pre .2, c .before .before .before .before .before .before .before .before .text .ensures .0, c .before .before .before .before .fields .ensures .0, fields-few (take (a .count) (a .items .now)), length-take-le (a .count) (a .items .now) (c .before .before .before .before .before .before .before .before .before .before .before .before .before .pre .0))
+      arith,
+      c .before .before .before .before .before .before .before .before .before .before .before .before .before .pre .0,
+      c .before .before .before .before .before .before .before .before .before .before .before .before .before .pre .1,
+      c .before .before .before .before .before .before .before .before .before .before .before .before .before .pre .2,
+      c .before .before .before .before .before .before .before .before .text .ensures .0,
+      c .before .before .before .before .fields .ensures .0,
+      fields-few (take (a .count) (a .items .now)),
+      length-take-le (a .count) (a .items .now) (c .before .before .before .before .before .before .before .before .before .before .before .before .before .pre .0),
+    )
 
 same-length : tie.Need-same-length
 same-length c = search needs
