@@ -50,9 +50,9 @@ block-then-block (suc n) k s l =
     let behind : Piece → Piece = λ p. before p (lines k s (p .after)) in
     ap (λ (i : ℕ). lines i s l) one
     ∙ either-way (l .going)
-      (λ e. one-more (n + k) s l e ∙ ap (before line) (block-then-block n k s (line .after))
-        ∙ together line (lines n s (line .after)) (lines k s (lines n s (line .after) .after)) ∙ sym (ap behind (one-more n s l e)))
-      (λ e. no-more-lines (suc (n + k)) s l e ∙ sym (ap behind (no-more-lines (suc n) s l e) ∙ ap (before silent) (no-more-lines k s l e)))
+    (λ e. one-more (n + k) s l e ∙ ap (before line) (block-then-block n k s (line .after))
+    ∙ together line (lines n s (line .after)) (lines k s (lines n s (line .after) .after)) ∙ sym (ap behind (one-more n s l e)))
+    (λ e. no-more-lines (suc (n + k)) s l e ∙ sym (ap behind (no-more-lines (suc n) s l e) ∙ ap (before silent) (no-more-lines k s l e)))
 
 -- the next line and what follows it, by what is read
 by-reading : (n : ℕ) (s : List ℕ) (l : Listing) (x : EntryReading) → l .going ≡ true → entryAt s (l .from) ≡ x
@@ -118,7 +118,7 @@ module _ (s : List ℕ) (short : length s < 2 ^ 32) where
       let bound = bound-not-met (length s) s (l .from + k) (omega (arith, w .0)) in
       append-assoc (entered l e k .text) (lines n s next .text) (lastLine (lines n s next .after))
       ∙ ap (λ (t : List ℕ). entered l e k .text ++ t)
-        (h ∙ ap₂ (λ (i : ℕ) (es : Entries). entryLines (next .machine) i (es .entries) (es .ending)) place (sym bound))
+      (h ∙ ap₂ (λ (i : ℕ) (es : Entries). entryLines (next .machine) i (es .entries) (es .ending)) place (sym bound))
 
   -- by what is read: the end, a refusal, or an entry
   told-step : (n : ℕ) (l : Listing) (x : EntryReading) → entryAt s (l .from) ≡ x → l .place ≤ l .from → lines n s (byReading x l .after) .after .going ≡ false

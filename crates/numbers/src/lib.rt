@@ -117,8 +117,8 @@ pub fn write(buf: &mut [u8], n: u32) -> Writing
 pub fn count(n: u32) -> usize
     ensures { λ r. ⌜ r ≡ length (groupsOf n) ⌝ }
 {
-    let groups = groups_of(n);
-    groups.count
+    let all = groups_of(n);
+    all.count
 }
 
 fn groups_of(n: u32) -> Groups

@@ -7,3 +7,4 @@ pub mod RoundTrip
 pub mod Written
 pub mod Endings
 pub mod OneEncoding
+pub mod Refused
