@@ -1,0 +1,4 @@
+pub mod Positions
+pub mod Pigeons
+pub mod Following
+pub mod Joining
