@@ -1,0 +1,5 @@
+pub mod Shared
+pub mod Invariant
+pub mod Ends
+pub mod Knows
+pub mod Grows
