@@ -13,7 +13,7 @@ use Rattle.chain.proofs.Positions.{one-element, within, at-left, at-rig
 
 module _ {next next′ : ℕ → Option ℕ} {c l : List ℕ} (chain : Chain next c) (beside : Beside next c l)
     (last first : ℕ) (k : ℕ) (ends : At c k last) (all : length c ≡ suc k) (begins : At l 0 first)
-    (linked : next′ last ≡ some first) (else : (n : ℕ) → n ≢ last → next′ n ≡ next n) where
+    (linked : next′ last ≡ some first) (else : (n : ℕ) → In c n ⊎ In l n → n ≢ last → next′ n ≡ next n) where
   not-last : (n : ℕ) → (In c n → ⊥) → n ≢ last
   not-last n out e = out (k, ends ∙ ap some (sym e))
 
@@ -29,12 +29,12 @@ module _ {next next′ : ℕ → Option ℕ} {c l : List ℕ} (chain : Chain nex
       there ne =
           let other : i ≢ k = λ e. ne (one-element c i k p ends e) in
           let inside : suc i < length c = omega (arith, within c i p, all) in
-          else n ne ∙ chain .links i n p ∙ sym (at-left c l (suc i) inside)
+          else n (inl (i, p)) ne ∙ chain .links i n p ∙ sym (at-left c l (suc i) inside)
 
   new-link : (i j n : ℕ) → i ≡ length c + j → At l j n → next′ n ≡ at (c ++ l) (suc i)
   new-link i j n e p =
       let place : suc i ≡ length c + suc j = omega arith in
-      else n (not-last n (beside .apart j n p)) ∙ beside .chain .links j n p ∙ sym (ap (at (c ++ l)) place ∙ at-right c l (suc j))
+      else n (inr (j, p)) (not-last n (beside .apart j n p)) ∙ beside .chain .links j n p ∙ sym (ap (at (c ++ l)) place ∙ at-right c l (suc j))
 
   once-in-either : (i j n : ℕ) → At c i n ⊎ ((d : ℕ) × (i ≡ length c + d) × At l d n) → At c j n ⊎ ((d : ℕ) × (j ≡ length c + d) × At l d n) → i ≡ j
   once-in-either i j n (inl p) (inl q) = chain .once i j n p q
@@ -48,9 +48,10 @@ module _ {next next′ : ℕ → Option ℕ} {c l : List ℕ} (chain : Chain nex
     once = λ i j n p q. once-in-either i j n (in-either c l i p) (in-either c l j q);
   }
 
-  -- a third chain that stands beside both stands beside what they are now
-  pub stays-beside : {m : List ℕ} → Beside next c m → ((n : ℕ) → In l n → In m n → ⊥) → Beside next′ (c ++ l) m
-  stays-beside b other = record {
-    chain = record { links = λ i n p. else n (not-last n (b .apart i n p)) ∙ b .chain .links i n p; once = b .chain .once };
-    apart = λ i n p w. ⊎-elim (λ x. b .apart i n p (w .0, x)) (λ x. other n (x .0, x .2) (i, p)) (in-either c l (w .0) (w .1));
-  }
+-- a third chain that stands beside both stands beside what they are now, where its links stay
+pub stays-beside : {next next′ : ℕ → Option ℕ} {c m : List ℕ} (l : List ℕ) → Beside next c m → ((n : ℕ) → In l n → In m n → ⊥)
+    → ((n : ℕ) → In m n → next′ n ≡ next n) → Beside next′ (c ++ l) m
+stays-beside {c = c} l b other same = record {
+  chain = record { links = λ i n p. same n (i, p) ∙ b .chain .links i n p; once = b .chain .once };
+  apart = λ i n p w. ⊎-elim (λ x. b .apart i n p (w .0, x)) (λ x. other n (x .0, x .2) (i, p)) (in-either c l (w .0) (w .1));
+}

@@ -3,3 +3,14 @@ pub mod Invariant
 pub mod Ends
 pub mod Knows
 pub mod Grows
+pub mod LinkSteps
+pub mod Fine
+pub mod EnqueueSteps
+pub mod RunReads
+pub mod SameEnds
+pub mod TailMoves
+pub mod HeadMoves
+pub mod NothingLinked
+pub mod Announcing
+pub mod HandingOutNodes
+pub mod HandingOutAnnouncements

@@ -1,10 +1,11 @@
 -- What stands beside the machine in the proof: what has been linked, by whom, and what each thread has been handed out and has deferred.
 -- It is computed from the steps taken and no step looks at it.
-use Prim.Native.Nat.{ℕ}
-use mathlib.Core.List.{List, []}
+use Prim.Native.Nat.{ℕ, _+_}
+use mathlib.Core.List.{List, [], _∷_, _++_}
 use mathlib.Core.Option.{Option}
-use lib.ListN.{getD}
+use lib.ListN.{length, getD}
 use Rattle.tally.specs.Fifo.{Call}
+use Rattle.memory.specs.declared.Tail.{Tail}
 
 -- the nodes of a batch with an enqueue, and its calls in calling order
 pub record Batch : Type 0 where
@@ -29,3 +30,16 @@ pub record Ghost : Type 0 where
 
 abbrev pub pendingOf : Ghost → ℕ → List (Call ℕ)
 pendingOf g t = getD (g .pending) t []
+
+-- nodes are linked behind the tail t that was read: by a single enqueue, or as the batch of an announcement
+abbrev pub joins : Ghost → Tail → List ℕ → Option ℕ → Ghost
+joins g t l who = record {
+  chain = g .chain ++ l;
+  ends = g .ends ++ ((t .count .0 + length l) ∷ []);
+  by = g .by ++ (who ∷ []);
+  installed = g .installed;
+  nodeOwners = g .nodeOwners;
+  announcementOwners = g .announcementOwners;
+  batches = g .batches;
+  pending = g .pending;
+}
