@@ -21,7 +21,8 @@ use Rattle.memory.specs.declared.OldTail.the-variants.{Unset, Set}
 use Rattle.memory.specs.declared.Announcement.{Announcement}
 use Rattle.memory.specs.Memory.{announcementAt, laidOver}
 use Rattle.row.specs.declared.Row.{Row}
-use Rattle.order.specs.Ghost.{Ghost, Batch}
+use Rattle.order.specs.Ghost.{Ghost, Batch, installs}
+use Rattle.order.proofs.SameEnds.{plain-is-not-announced}
 use Rattle.order.proofs.Shared.{Shared, next, withHead, withAnnouncements, announcing, announcement-set, other-announcement}
 use Rattle.order.proofs.Invariant.{FrontAt, Linked, NotLinked, Shape, TailAt, Asks, Inv}
 use Rattle.order.proofs.Ends.{installed-small}
@@ -32,13 +33,6 @@ use Rattle.order.proofs.NothingLinked.{sameChain, link-steps-stay, tail
 -- announcement b laid over front f, before the CAS of the head
 abbrev pub laid : Shared → ℕ → Front → Shared
 laid s b f = withAnnouncements s (announcing (s .announcements) b (laidOver (announcementAt (s .announcements) b) f))
-
--- .. and installed
-abbrev pub installs : Ghost → ℕ → Ghost
-installs g b = sameChain g (g .installed ++ (b ∷ [])) (g .nodeOwners) (g .announcementOwners) (g .batches)
-
-plain-is-not-announced : {h : Head} {f : Front} {a : ℕ} → h ≡ Plain f → h ≡ Announced a → ⊥
-plain-is-not-announced p q = let z : _≡_ {A = ℕ} 0 1 = cc in omega arith
 
 announced-injective : {a b : ℕ} → Announced a ≡ Announced b → a ≡ b
 announced-injective p = cc

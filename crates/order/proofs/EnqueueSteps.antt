@@ -19,27 +19,25 @@ use Rattle.memory.specs.declared.Head.the-variants.{Plain, Announced}
 use Rattle.memory.specs.declared.Link.{Link}
 use Rattle.memory.specs.declared.Link.the-variants.{None, To}
 use Rattle.memory.specs.declared.Found.the-variants as found
-use Rattle.memory.specs.Memory.{cellAt, linkCas}
+use Rattle.memory.specs.Ends.{pastTail, sameTail}
+use Rattle.memory.specs.Memory.{cellAt, linkCas, perform}
 use Rattle.memory.specs.Found.{linkIn}
 use Rattle.thread.specs.declared.Place.the-variants as place
 use Rattle.thread.specs.declared.Resume.the-variants as resume
 use Rattle.thread.specs.declared.After.the-variants as afterwards
+use Rattle.thread.specs.declared.enqueue.EnqueueStep.{EnqueueStep}
 use Rattle.thread.specs.declared.enqueue.EnqueueStep.the-variants.{E1, E2, E3, E4, E5}
 use Rattle.thread.specs.declared.running.RunStep.the-variants.{A1}
-use Rattle.thread.specs.Enqueue.{afterE2, afterE4, enqueueAt}
+use Rattle.thread.specs.Enqueue.{enqueueAccess, enqueueAfter, afterE2, afterE4, enqueueAt}
 use Rattle.row.specs.declared.Row.{Row}
-use Rattle.order.specs.Ghost.{Ghost, Batch, joins}
+use Rattle.order.specs.Ghost.{Ghost, Batch, joins, ifFree, enqueueGhost}
 use Rattle.order.proofs.Shared.{Shared, next, led, linked, withLinks}
 use Rattle.order.proofs.Invariant.{Inv}
 use Rattle.order.proofs.Knows.{Mine, Single, TailRead, SingleBehind, OneFurther, KnowsEnqueue, Alone}
-use Rattle.order.proofs.Grows.{Grows, read-stays}
+use Rattle.order.proofs.Grows.{Grows, read-stays, single-node-stays}
 use Rattle.order.proofs.LinkSteps.{Joins, at-last, tail-there, all-ends, join-inv, join-grows, join-spares}
-use Rattle.order.proofs.Fine.{Fine, memoryIn, KnowsAfter, reads-only}
-
--- the ghost's part of e2
-abbrev pub joinedAtE2 : Ghost → ℕ → Tail → Link → Ghost
-joinedAtE2 g n l None = joins g l (n ∷ []) none
-joinedAtE2 g n l (To x) = g
+use Rattle.order.proofs.Fine.{Fine, memoryIn, KnowsAfter, reads-only, tail-by-one}
+use Rattle.order.proofs.TailMoves.{tail-cas-spares, one-further-grows}
 
 module _ (s : Shared) (g : Ghost) (i : Inv s g) (t : ℕ) (r : Row) where
   -- the tail as it stands
@@ -73,7 +71,7 @@ module _ (s : Shared) (g : Ghost) (i : Inv s g) (t : ℕ) (r : Row) where
   }
 
   at-e2 : (n : ℕ) (l : Tail) → Single s g t n → TailRead s g l → Alone g t → (v : Link) → cellAt (s .links) (l .node) .link ≡ v
-      → Fine s g t r (linkCas (memoryIn s) (l .node) n v) (joinedAtE2 g n l v) (afterE2 n l (linkIn (linkCas (memoryIn s) (l .node) n v .found)))
+      → Fine s g t r (linkCas (memoryIn s) (l .node) n v) (ifFree v (joins g l (n ∷ []) none) g) (afterE2 n l (linkIn (linkCas (memoryIn s) (l .node) n v .found)))
   at-e2 n l m read alone None e = record {
     inv = join-inv s g i (n ∷ []) n none l read free j;
     grows = grows;
@@ -137,3 +135,16 @@ module _ (s : Shared) (g : Ghost) (i : Inv s g) (t : ℕ) (r : Row) where
   at-e4 : (n : ℕ) (l : Tail) (x : ℕ) → KnowsEnqueue s g t n (E4 l x) → Alone g t → (h : Head) → s .head ≡ h → KnowsAfter s g t r (afterE4 n l x h)
   at-e4 n l x k alone (Plain f) e = ((k .0, k .1, k .2, plain-further l x f (k .1) (k .2) e), alone)
   at-e4 n l x k alone (Announced a) e = (i .head .thereInstalled a e, (k .0, alone), tt)
+
+  -- each step of an enqueue; the ghost's part is that of e2
+  pub enqueue-step : (n : ℕ) (x : EnqueueStep) → KnowsEnqueue s g t n x → Alone g t
+      → Fine s g t r (perform (memoryIn s) (enqueueAccess n x)) (enqueueGhost (memoryIn s) g n x) (enqueueAfter n x (perform (memoryIn s) (enqueueAccess n x) .found))
+  unfolding perform enqueueAccess enqueueAfter
+  enqueue-step n E1 k alone = reads-only s g i t r (found.Tail (s .tail)) (enqueueAt n (E2 (s .tail))) ((k, tail-now), alone)
+  enqueue-step n (E2 l) k alone = at-e2 n l (k .0) (k .1) alone (cellAt (s .links) (l .node) .link) refl
+  enqueue-step n (E3 l) k alone = tail-by-one s g i t r l n (k .1) (inl (k .2)) afterwards.Ok (λ b e. alone) (sameTail (s .tail) l) refl
+  enqueue-step n (E4 l x) k alone = reads-only s g i t r (found.Head (s .head)) (afterE4 n l x (s .head)) (at-e4 n l x k alone (s .head) refl)
+  enqueue-step n (E5 l x) k alone =
+      tail-by-one s g i t r l x (k .2) (k .3) (enqueueAt n E1)
+      (λ b e. (single-node-stays (one-further-grows i l x (k .2) b e) (tail-cas-spares s g (pastTail l x 1) b t) (k .0), alone))
+      (sameTail (s .tail) l) refl

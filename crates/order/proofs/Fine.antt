@@ -1,23 +1,29 @@
 -- What a step has to show: that the invariant holds after it, what the others may rely on, and what its own thread knows then.
-use Prim.Native.Nat.{ℕ, _+_, _<_}
-use mathlib.Core.Path.{_≡_, refl}
-use mathlib.Core.List.{List}
-use mathlib.Core.Logic.{inl, _≢_}
-use native.Mathlib.Omega.{arith}
+use Prim.Native.Nat.{ℕ, suc, _+_, _<_}
+use mathlib.Core.Path.{_≡_}
+use mathlib.Core.Bool.{Bool, true, false}
+use mathlib.Core.Logic.{_≢_}
 use lib.ListN.{length}
 use Rattle.chain.specs.Positions.{At, In}
+use Rattle.memory.specs.declared.Tail.{Tail}
 use Rattle.memory.specs.declared.Front.{Front}
+use Rattle.memory.specs.declared.Head.the-variants.{Plain}
 use Rattle.memory.specs.declared.Found.{Found}
-use Rattle.memory.specs.Memory.{Memory, Performed, reads}
+use Rattle.memory.specs.declared.Found.the-variants as found
+use Rattle.memory.specs.Ends.{pastTail, sameTail, sameHead}
+use Rattle.memory.specs.Memory.{Memory, Performed, reads, tailCas, headCas}
+use Rattle.memory.specs.Found.{takenIn}
 use Rattle.thread.specs.declared.Place.{Place}
 use Rattle.thread.specs.declared.After.{After}
 use Rattle.thread.specs.declared.After.the-variants as afterwards
 use Rattle.row.specs.declared.Row.{Row}
 use Rattle.order.specs.Ghost.{Ghost}
-use Rattle.order.proofs.Shared.{Shared, inMemory}
+use Rattle.order.proofs.Shared.{Shared, inMemory, tailIf, headIf}
 use Rattle.order.proofs.Invariant.{FrontAt, Inv}
-use Rattle.order.proofs.Knows.{Past, requestOf, Own, Alone, KnowsAt}
+use Rattle.order.proofs.Knows.{OneFurther, Past, requestOf, Own, Alone, KnowsAt}
 use Rattle.order.proofs.Grows.{Grows, Spares}
+use Rattle.order.proofs.TailMoves.{quiet, spared, tail-cas-spares, one-further-inv, one-further-grows}
+use Rattle.order.proofs.HeadMoves.{head-cas-inv, head-cas-grows, head-cas-spares}
 
 abbrev pub memoryIn : Shared → Memory
 memoryIn s = record { ends = record { head = s .head; tail = s .tail }; links = s .links; announcements = s .announcements }
@@ -54,24 +60,31 @@ pub record Fine (s : Shared) (g : Ghost) (t : ℕ) (r : Row) (x : Performed) (g�
   pub spares : (u : ℕ) → u ≢ t → Spares s g (inMemory s (x .memory)) g′ u
   pub knows : KnowsAfter (inMemory s (x .memory)) g′ t r a
 
--- nothing shared has changed
-pub nothing-grows : {s : Shared} {g : Ghost} → Grows s g s g
-nothing-grows = record {
-  chain = λ k n h. h;
-  ends = λ j p h. h;
-  by = λ j x h. h;
-  newBatch = λ a p h. inl h;
-  installed = λ a h. h;
-  batches = λ a b h. h;
-  tailUp = omega arith;
-  request = λ a h. refl;
-  oldTail = λ a o h e. e;
-}
-
-pub all-spared : {s : Shared} {g : Ghost} {u : ℕ} → Spares s g s g u
-all-spared = record { mine = λ n h. h; link = λ n h. refl; mineToo = λ b h. h; announcement = λ b h. refl; pending = refl }
-
 module _ (s : Shared) (g : Ghost) (i : Inv s g) (t : ℕ) (r : Row) where
   -- a step that only reads
   pub reads-only : (y : Found) (a : After) → KnowsAfter s g t r a → Fine s g t r (reads (memoryIn s) y) g a
-  reads-only y a k = record { inv = i; grows = nothing-grows; spares = λ u ne. all-spared; knows = k }
+  reads-only y a k = record { inv = i; grows = quiet; spares = λ u ne. spared; knows = k }
+
+  -- a CAS of the tail by one node
+  pub tail-by-one : (l : Tail) (x : ℕ) → At (g .chain) (suc (l .count .0)) x → OneFurther s g l → (a : After)
+      → ((b : Bool) → sameTail (s .tail) l ≡ b → KnowsAfter (tailIf b s (pastTail l x 1)) g t r a)
+      → (b : Bool) → sameTail (s .tail) l ≡ b → Fine s g t r (tailCas (memoryIn s) (pastTail l x 1) b) g a
+  tail-by-one l x p o a k true e = record {
+    inv = one-further-inv i l x p true e o;
+    grows = one-further-grows i l x p true e;
+    spares = λ u ne. tail-cas-spares s g (pastTail l x 1) true u;
+    knows = k true e;
+  }
+  tail-by-one l x p o a k false e = reads-only (found.Taken false) a (k false e)
+
+  -- a CAS of the head from a plain one
+  pub head-by : (f x : Front) → FrontAt g x → (after : Bool → After) → ((b : Bool) → KnowsAfter (headIf b s (Plain x)) g t r (after b))
+      → (b : Bool) → sameHead (s .head) (Plain f) ≡ b
+      → Fine s g t r (headCas (memoryIn s) (Plain x) b) g (after (takenIn (headCas (memoryIn s) (Plain x) b .found)))
+  head-by f x is after k true e = record {
+    inv = head-cas-inv i x is f true e;
+    grows = head-cas-grows s g (Plain x) true;
+    spares = λ u ne. head-cas-spares s g (Plain x) true u;
+    knows = k true;
+  }
+  head-by f x is after k false e = reads-only (found.Taken false) (after false) (k false)

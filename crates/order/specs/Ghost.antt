@@ -2,10 +2,25 @@
 -- It is computed from the steps taken and no step looks at it.
 use Prim.Native.Nat.{ℕ, _+_}
 use mathlib.Core.List.{List, [], _∷_, _++_}
-use mathlib.Core.Option.{Option}
+use mathlib.Core.Bool.{cond}
+use mathlib.Core.Option.{Option, none, some}
 use lib.ListN.{length, getD}
 use Rattle.tally.specs.Fifo.{Call}
 use Rattle.memory.specs.declared.Tail.{Tail}
+use Rattle.memory.specs.declared.Head.the-variants.{Plain}
+use Rattle.memory.specs.declared.Link.{Link}
+use Rattle.memory.specs.declared.Link.the-variants.{None, To}
+use Rattle.memory.specs.Ends.{sameHead}
+use Rattle.memory.specs.Memory.{Memory, cellAt}
+use Rattle.thread.specs.declared.Place.{Place}
+use Rattle.thread.specs.declared.Place.the-variants as place
+use Rattle.thread.specs.declared.Place.the-variants.{Idle, Enqueue, Dequeue, Dequeues, Running}
+use Rattle.thread.specs.declared.enqueue.EnqueueStep.{EnqueueStep}
+use Rattle.thread.specs.declared.enqueue.EnqueueStep.the-variants.{E1, E2, E3, E4, E5}
+use Rattle.thread.specs.declared.batch.BatchStep.{BatchStep}
+use Rattle.thread.specs.declared.batch.BatchStep.the-variants.{B1, B2}
+use Rattle.thread.specs.declared.running.RunStep.{RunStep}
+use Rattle.thread.specs.declared.running.RunStep.the-variants.{A1, A2, A3, A4, A5, A6, A7, A8}
 
 -- the nodes of a batch with an enqueue, and its calls in calling order
 pub record Batch : Type 0 where
@@ -43,3 +58,57 @@ joins g t l who = record {
   batches = g .batches;
   pending = g .pending;
 }
+
+-- announcement b is put into the head
+abbrev pub installs : Ghost → ℕ → Ghost
+installs g b = record {
+  chain = g .chain;
+  ends = g .ends;
+  by = g .by;
+  installed = g .installed ++ (b ∷ []);
+  nodeOwners = g .nodeOwners;
+  announcementOwners = g .announcementOwners;
+  batches = g .batches;
+  pending = g .pending;
+}
+
+abbrev pub noBatch : Batch
+noBatch = record { nodes = []; calls = [] }
+
+abbrev pub batchOf : Ghost → ℕ → Batch
+batchOf g a = getD (g .batches) a noBatch
+
+-- a CAS of a link is taken where the link is none
+abbrev pub ifFree : {A : Type 0} → Link → A → A → A
+ifFree None taken not = taken
+ifFree (To x) taken not = not
+
+-- what a step adds: a taken e2 or a3 links, a taken b2 installs; the other steps add nothing
+abbrev pub enqueueGhost : Memory → Ghost → ℕ → EnqueueStep → Ghost
+enqueueGhost m g n E1 = g
+enqueueGhost m g n (E2 t) = ifFree (cellAt (m .links) (t .node) .link) (joins g t (n ∷ []) none) g
+enqueueGhost m g n (E3 t) = g
+enqueueGhost m g n (E4 t x) = g
+enqueueGhost m g n (E5 t x) = g
+
+abbrev pub batchGhost : Memory → Ghost → ℕ → BatchStep → Ghost
+batchGhost m g b B1 = g
+batchGhost m g b (B2 f) = cond (sameHead (m .ends .head) (Plain f)) (installs g b) g
+
+abbrev pub runGhost : Memory → Ghost → ℕ → RunStep → Ghost
+runGhost m g a A1 = g
+runGhost m g a (A2 t) = g
+runGhost m g a (A3 t) = ifFree (cellAt (m .links) (t .node) .link) (joins g t (batchOf g a .nodes) (some a)) g
+runGhost m g a (A4 t) = g
+runGhost m g a (A5 o) = g
+runGhost m g a (A6 s x left) = g
+runGhost m g a (A7 s x) = g
+runGhost m g a (A8 t x) = g
+
+abbrev pub stepGhost : Memory → Ghost → Place → Ghost
+stepGhost m g Idle = g
+stepGhost m g (Enqueue n x) = enqueueGhost m g n x
+stepGhost m g (Dequeue x) = g
+stepGhost m g (place.Batch b x) = batchGhost m g b x
+stepGhost m g (Dequeues x) = g
+stepGhost m g (Running a x k) = runGhost m g a x
