@@ -17,3 +17,7 @@ pub mod RunReads
 pub mod DequeueSteps
 pub mod BatchSteps
 pub mod RunSteps
+pub mod Deferring
+pub mod Together
+pub mod Steps
+pub mod MachineSteps

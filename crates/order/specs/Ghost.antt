@@ -4,7 +4,7 @@ use Prim.Native.Nat.{ℕ, _+_}
 use mathlib.Core.List.{List, [], _∷_, _++_}
 use mathlib.Core.Bool.{cond}
 use mathlib.Core.Option.{Option, none, some}
-use lib.ListN.{length, getD}
+use lib.ListN.{length, getD, set}
 use Rattle.tally.specs.Fifo.{Call}
 use Rattle.memory.specs.declared.Tail.{Tail}
 use Rattle.memory.specs.declared.Head.the-variants.{Plain}
@@ -15,6 +15,8 @@ use Rattle.memory.specs.Memory.{Memory, cellAt}
 use Rattle.thread.specs.declared.Place.{Place}
 use Rattle.thread.specs.declared.Place.the-variants as place
 use Rattle.thread.specs.declared.Place.the-variants.{Idle, Enqueue, Dequeue, Dequeues, Running}
+use Rattle.thread.specs.declared.After.{After}
+use Rattle.thread.specs.declared.After.the-variants as afterwards
 use Rattle.thread.specs.declared.enqueue.EnqueueStep.{EnqueueStep}
 use Rattle.thread.specs.declared.enqueue.EnqueueStep.the-variants.{E1, E2, E3, E4, E5}
 use Rattle.thread.specs.declared.batch.BatchStep.{BatchStep}
@@ -112,3 +114,24 @@ stepGhost m g (Dequeue x) = g
 stepGhost m g (place.Batch b x) = batchGhost m g b x
 stepGhost m g (Dequeues x) = g
 stepGhost m g (Running a x k) = runGhost m g a x
+
+-- the step that ends a batch clears the thread's pending calls
+abbrev pub defers : Ghost → ℕ → List (Call ℕ) → Ghost
+defers g t cs = record {
+  chain = g .chain;
+  ends = g .ends;
+  by = g .by;
+  installed = g .installed;
+  nodeOwners = g .nodeOwners;
+  announcementOwners = g .announcementOwners;
+  batches = g .batches;
+  pending = set (g .pending) t cs;
+}
+
+abbrev pub endGhost : Ghost → ℕ → After → Ghost
+endGhost g t (afterwards.On p) = g
+endGhost g t afterwards.Ok = g
+endGhost g t afterwards.Empty = g
+endGhost g t (afterwards.Item x) = g
+endGhost g t (afterwards.Pair x) = defers g t []
+endGhost g t (afterwards.PairDequeues x s) = defers g t []

@@ -1,0 +1,136 @@
+-- A step of the machine, with what the end of a call tells, and Run as a fold of steps: both keep the invariant.
+use Prim.Native.Nat.{ℕ, zero, suc, _<_, _≤_}
+use mathlib.Core.Path.{_≡_, refl, sym, ap, _∙_, subst}
+use mathlib.Core.Bool.{Bool, true, false, cond}
+use mathlib.Core.List.{List, []}
+use mathlib.Core.Logic.{_≢_}
+use native.Mathlib.Omega.{arith}
+use lib.ListN.{length, getD, set, length-set}
+use lib.Seq.{set-set}
+use Rattle.chain.specs.Positions.{at}
+use Rattle.tally.specs.Fifo.{Call}
+use Rattle.tally.specs.Excess.{enqueued, dequeues, excess}
+use Rattle.tally.specs.Tally.{tallyOf, nothingPending}
+use Rattle.tally.specs.declared.Tally.{Tally}
+use Rattle.tally.proofs.Counts.{excess-nil}
+use Rattle.thread.specs.declared.Place.{Place}
+use Rattle.thread.specs.declared.Place.the-variants.{Idle}
+use Rattle.thread.specs.declared.After.{After}
+use Rattle.thread.specs.declared.After.the-variants as afterwards
+use Rattle.thread.specs.Place.{placeAfter}
+use Rattle.row.specs.declared.Row.{Row}
+use Rattle.row.specs.Row.{placed, cleared}
+use Rattle.call.specs.declared.pairing.Cursor.{Cursor}
+use Rattle.machine.specs.declared.Machine.{Machine}
+use Rattle.machine.specs.State.{rowAt, memoryOf}
+use Rattle.machine.specs.Pairing.{pairing, settled}
+use Rattle.machine.specs.Steps.{accessed, hop, tell, stepOf, isMore, oneMore, advance}
+use Rattle.order.specs.Ghost.{Ghost, pendingOf, stepGhost, defers, endGhost}
+use Rattle.order.proofs.Shared.{Shared, sharedOf}
+use Rattle.order.proofs.Invariant.{Inv}
+use Rattle.order.proofs.Knows.{Tallied, Alone, Knows}
+use Rattle.order.proofs.Grows.{Grows, Spares}
+use Rattle.order.proofs.Fine.{Fine, KnowsAfter}
+use Rattle.order.proofs.Deferring.{deferred-inv, deferred-grows, deferred-spares, deferred-pending}
+use Rattle.order.proofs.Together.{grows-then-grows, spares-then-spares}
+use Rattle.order.proofs.Steps.{Ok, place-step, pending-kept, put-back, nothing-private, alone-tally, same-place}
+
+pub tally-of-none : tallyOf {A = ℕ} [] ≡ nothingPending
+unfolding enqueued dequeues
+tally-of-none = λ k. record { enqueues = 0; dequeues = 0; excess = excess-nil ℕ k }
+
+module _ (m : Machine) (g : Ghost) (ok : Ok m g) (i : ℕ) (lt : i < 8) where
+  -- the ghost after the step's access
+  abbrev g₁ : Ghost
+  g₁ = stepGhost (memoryOf m) g (rowAt m i .place)
+
+  abbrev m₁ : Machine
+  m₁ = hop m i .machine
+
+  pendings-kept : g₁ .pending ≡ g .pending
+  pendings-kept = pending-kept (memoryOf m) g (rowAt m i .place)
+
+  still-tallied : (p : Place) → Tallied g₁ i (placed (rowAt m i) p)
+  still-tallied p =
+      let h = ok .knows i lt .tallied in
+      let same : pendingOf g₁ i ≡ pendingOf g i = ap (λ (l : List (List (Call ℕ))). getD l i []) pendings-kept in
+      record { tally = h .tally ∙ sym (ap tallyOf same); count = h .count ∙ sym (ap length same); few = omega (arith, h .few, ap length same) }
+
+  fine : Fine (sharedOf m) g i (rowAt m i) (accessed m (rowAt m i)) g₁ (hop m i .after)
+  unfolding hop
+  fine = place-step (sharedOf m) g (ok .inv) i (rowAt m i) (rowAt m i .place) (ok .knows i lt .place)
+
+  -- the row as the step leaves it
+  row-left : (a : After) → hop m i .after ≡ a → m₁ .rows ≡ set (m .rows) i (placed (rowAt m i) (placeAfter a))
+  unfolding hop
+  row-left a e = ap (λ (x : After). set (m .rows) i (placed (rowAt m i) (placeAfter x))) e
+
+  length-kept : length (g₁ .pending) ≡ length (g .pending)
+  length-kept = ap length pendings-kept
+
+  inv₁ : Inv (sharedOf m₁) g₁
+  unfolding hop
+  inv₁ = fine .inv
+
+  grows₁ : Grows (sharedOf m) g (sharedOf m₁) g₁
+  unfolding hop
+  grows₁ = fine .grows
+
+  spares₁ : (u : ℕ) → u ≢ i → Spares (sharedOf m) g (sharedOf m₁) g₁ u
+  unfolding hop
+  spares₁ = fine .spares
+
+  knows₁ : (a : After) → hop m i .after ≡ a → KnowsAfter (sharedOf m₁) g₁ i (rowAt m i) a
+  unfolding hop
+  knows₁ a e = subst (KnowsAfter (sharedOf m₁) g₁ i (rowAt m i)) e (fine .knows)
+
+  nodes-kept : m₁ .nodes ≡ m .nodes
+  unfolding hop
+  nodes-kept = refl
+
+  -- a step that goes on, or ends a single call
+  stays-in-call : (p : Place) → hop m i .after ≡ afterwards.On p → Ok m₁ g₁
+  stays-in-call p e =
+      put-back m g ok i lt m₁ g₁ (placed (rowAt m i) p) (row-left (afterwards.On p) e) nodes-kept length-kept inv₁ grows₁ spares₁
+      (record { tallied = still-tallied p; place = same-place (sharedOf m₁) g₁ i (rowAt m i) (placed (rowAt m i) p) refl refl refl p (knows₁ (afterwards.On p) e) })
+
+  single-ends : (a : After) → hop m i .after ≡ a → placeAfter a ≡ Idle → Alone g₁ i → Ok m₁ g₁
+  single-ends a e q alone =
+      put-back m g ok i lt m₁ g₁ (placed (rowAt m i) Idle) (row-left a e ∙ ap (λ (p : Place). set (m .rows) i (placed (rowAt m i) p)) q) nodes-kept length-kept inv₁ grows₁ spares₁
+      (record { tallied = still-tallied Idle; place = nothing-private (sharedOf m₁) g₁ i (placed (rowAt m i) Idle) (alone-tally g₁ i (placed (rowAt m i) Idle) (still-tallied Idle) alone) })
+
+  -- the end of a batch: its results are paired, and its pending calls are cleared
+  abbrev g₂ : Ghost
+  g₂ = defers g₁ i []
+
+  room : i < length (g₁ .pending)
+  room = omega (arith, length-kept, ok .pendings)
+
+  batch-ends : (a : After) (c : Cursor) → hop m i .after ≡ a → Ok (settled m₁ i 1 c .machine) g₂
+  unfolding settled pairing
+  batch-ends a c e =
+      put-back m g ok i lt (settled m₁ i 1 c .machine) g₂ (cleared (rowAt m₁ i))
+      (ap (λ (l : List Row). set l i (cleared (rowAt m₁ i))) (row-left a e) ∙ set-set (m .rows) i (placed (rowAt m i) (placeAfter a)) (cleared (rowAt m₁ i)))
+      nodes-kept (length-set (g₁ .pending) i [] ∙ length-kept)
+      (deferred-inv (sharedOf m₁) g₁ i [] inv₁)
+      (grows-then-grows grows₁ (deferred-grows (sharedOf m₁) g₁ i []))
+      (λ u ne. spares-then-spares (spares₁ u ne) (deferred-spares (sharedOf m₁) g₁ i [] u ne))
+      (record { tallied = cleared-tally; place = nothing-private (sharedOf m₁) g₂ i (cleared (rowAt m₁ i)) refl })
+    where
+      none : pendingOf g₂ i ≡ []
+      none = deferred-pending (sharedOf m₁) g₁ i [] room
+
+      cleared-tally : Tallied g₂ i (cleared (rowAt m₁ i))
+      cleared-tally = record { tally = sym (ap tallyOf none ∙ tally-of-none); count = sym (ap length none); few = omega (arith, ap length none) }
+
+  -- a step of the machine
+  pub step-keeps : Ok (stepOf m i .machine) (endGhost g₁ i (hop m i .after))
+  step-keeps = by (hop m i .after) refl
+    where
+      by : (a : After) → hop m i .after ≡ a → Ok (tell m₁ i 1 a .machine) (endGhost g₁ i a)
+      by (afterwards.On p) e = stays-in-call p e
+      by afterwards.Ok e = single-ends afterwards.Ok e refl (knows₁ afterwards.Ok e)
+      by afterwards.Empty e = single-ends afterwards.Empty e refl (knows₁ afterwards.Empty e)
+      by (afterwards.Item x) e = single-ends (afterwards.Item x) e refl (knows₁ (afterwards.Item x) e .0)
+      by (afterwards.Pair x) e = batch-ends (afterwards.Pair x) _ e
+      by (afterwards.PairDequeues x n) e = batch-ends (afterwards.PairDequeues x n) _ e

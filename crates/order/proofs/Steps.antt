@@ -1,0 +1,178 @@
+-- Every step of every thread keeps the invariant of the machine and its ghost.
+use Prim.Native.Nat.{ℕ, suc, _+_, _<_, _≤_}
+use mathlib.Core.Path.{_≡_, refl, sym, ap, _∙_, subst}
+use mathlib.Core.Bool.{Bool, true, false, cond}
+use mathlib.Core.List.{List, []}
+use mathlib.Core.Logic.{_≢_}
+use native.Mathlib.Omega.{arith}
+use native.Mathlib.Decide.{ℕ-discrete}
+use lib.ListN.{length, getD, set, length-set}
+use lib.Seq.{getD-set-same, getD-set-other, set-set}
+use Rattle.chain.specs.Positions.{at}
+use Rattle.chain.proofs.Positions.{none-is-not-some}
+use Rattle.tally.specs.Fifo.{Call}
+use Rattle.tally.specs.Excess.{enqueued}
+use Rattle.tally.specs.Tally.{tallyOf}
+use Rattle.tally.specs.declared.Tally.{Tally}
+use Rattle.memory.specs.declared.Head.the-variants.{Plain}
+use Rattle.memory.specs.declared.Link.{Link}
+use Rattle.memory.specs.declared.Link.the-variants.{None, To}
+use Rattle.memory.specs.declared.Request.{Request}
+use Rattle.memory.specs.declared.Found.the-variants as found
+use Rattle.memory.specs.Ends.{sameHead}
+use Rattle.memory.specs.Memory.{Memory, Performed, perform, cellAt, noAnnouncement}
+use Rattle.thread.specs.declared.Place.{Place}
+use Rattle.thread.specs.declared.Place.the-variants.{Idle, Enqueue, Dequeue, Batch, Dequeues, Running}
+use Rattle.thread.specs.declared.Resume.{Resume}
+use Rattle.thread.specs.declared.Resume.the-variants as resume
+use Rattle.thread.specs.declared.After.{After}
+use Rattle.thread.specs.declared.After.the-variants as afterwards
+use Rattle.thread.specs.declared.enqueue.EnqueueStep.{EnqueueStep}
+use Rattle.thread.specs.declared.enqueue.EnqueueStep.the-variants.{E1, E2, E3, E4, E5}
+use Rattle.thread.specs.declared.batch.BatchStep.{BatchStep}
+use Rattle.thread.specs.declared.batch.BatchStep.the-variants.{B1, B2}
+use Rattle.thread.specs.declared.running.RunStep.{RunStep}
+use Rattle.thread.specs.declared.running.RunStep.the-variants.{A1, A2, A3, A4, A5, A6, A7, A8}
+use Rattle.thread.specs.Place.{announcementRun, access, after, placeAfter}
+use Rattle.row.specs.declared.Row.{Row}
+use Rattle.row.specs.Row.{placed, cleared, noRow}
+use Rattle.machine.specs.declared.Machine.{Machine}
+use Rattle.machine.specs.State.{rowAt}
+use Rattle.machine.specs.Pairing.{pairing, settled}
+use Rattle.machine.specs.Steps.{hop, tell, stepOf}
+use Rattle.order.specs.Ghost.{Ghost, pendingOf, joins, installs, ifFree, stepGhost, enqueueGhost, batchGhost, runGhost, defers, endGhost}
+use Rattle.order.proofs.Shared.{Shared, sharedOf, inMemory}
+use Rattle.order.proofs.Invariant.{Inv}
+use Rattle.order.proofs.Knows.{Pending, Tallied, Own, Alone, KnowsResume, KnowsAt, Knows}
+use Rattle.order.proofs.Grows.{Grows, Spares, knows-stays}
+use Rattle.order.proofs.Fine.{Fine, memoryIn, KnowsAfter, reads-only}
+use Rattle.order.proofs.EnqueueSteps.{enqueue-step}
+use Rattle.order.proofs.DequeueSteps.{dequeue-step, dequeues-step}
+use Rattle.order.proofs.BatchSteps.{batch-step}
+use Rattle.order.proofs.RunSteps.{run-step}
+
+-- the machine and its ghost: the shared invariant, and what each thread knows
+pub record Ok (m : Machine) (g : Ghost) : Type 0 where
+  pub inv : Inv (sharedOf m) g
+  pub knows : (t : ℕ) → t < 8 → Knows (sharedOf m) g t (rowAt m t)
+  pub rows : length (m .rows) ≡ 8
+  pub pendings : length (g .pending) ≡ 8
+  pub sized : m .nodes ≤ 512
+
+-- by its place
+abbrev request : Shared → Place → Request
+request s p = getD (s .announcements) (announcementRun p) noAnnouncement .request
+
+module _ (s : Shared) (g : Ghost) (i : Inv s g) (t : ℕ) (r : Row) where
+  pub place-step : (p : Place) → KnowsAt s g t r p
+      → Fine s g t r (perform (memoryIn s) (access p (request s p))) (stepGhost (memoryIn s) g p)
+      (after p (perform (memoryIn s) (access p (request s p)) .found) (request s p) (r .tally .dequeues))
+  unfolding perform
+  place-step Idle k = reads-only s g i t r (found.Head (s .head)) (afterwards.On Idle) k
+  place-step (Enqueue n x) k = enqueue-step s g i t r n x (k .0) (k .1)
+  place-step (Dequeue x) k = dequeue-step s g i t r x (k .0) (k .1)
+  place-step (Batch b x) k = batch-step s g i t r b x (k .0) (k .1)
+  place-step (Dequeues x) k = dequeues-step s g i t r x (k .0) (k .1)
+  place-step (Running a x y) k = run-step s g i t r a y (k .0) (k .1) x (k .2)
+
+-- a step leaves the pending calls alone
+either-pending : (v : Link) (x y : Ghost) (l : List (List (Call ℕ))) → x .pending ≡ l → y .pending ≡ l → ifFree v x y .pending ≡ l
+either-pending None x y l p q = p
+either-pending (To n) x y l p q = q
+
+cond-pending : (b : Bool) (x y : Ghost) (l : List (List (Call ℕ))) → x .pending ≡ l → y .pending ≡ l → cond b x y .pending ≡ l
+cond-pending true x y l p q = p
+cond-pending false x y l p q = q
+
+pub pending-kept : (m : Memory) (g : Ghost) (p : Place) → stepGhost m g p .pending ≡ g .pending
+pending-kept m g Idle = refl
+pending-kept m g (Enqueue n E1) = refl
+pending-kept m g (Enqueue n (E2 l)) = either-pending (cellAt (m .links) (l .node) .link) _ _ (g .pending) refl refl
+pending-kept m g (Enqueue n (E3 l)) = refl
+pending-kept m g (Enqueue n (E4 l x)) = refl
+pending-kept m g (Enqueue n (E5 l x)) = refl
+pending-kept m g (Dequeue x) = refl
+pending-kept m g (Batch b B1) = refl
+pending-kept m g (Batch b (B2 f)) = cond-pending (sameHead (m .ends .head) (Plain f)) _ _ (g .pending) refl refl
+pending-kept m g (Dequeues x) = refl
+pending-kept m g (Running a A1 k) = refl
+pending-kept m g (Running a (A2 l) k) = refl
+pending-kept m g (Running a (A3 l) k) = either-pending (cellAt (m .links) (l .node) .link) _ _ (g .pending) refl refl
+pending-kept m g (Running a (A4 l) k) = refl
+pending-kept m g (Running a (A5 o) k) = refl
+pending-kept m g (Running a (A6 s x left) k) = refl
+pending-kept m g (Running a (A7 s x) k) = refl
+pending-kept m g (Running a (A8 l x) k) = refl
+
+-- a machine that differs in what is shared and in one thread's row
+module _ (m : Machine) (g : Ghost) (ok : Ok m g) (i : ℕ) (lt : i < 8) where
+  pub put-back : (m′ : Machine) (g′ : Ghost) (row : Row) → m′ .rows ≡ set (m .rows) i row → m′ .nodes ≡ m .nodes → length (g′ .pending) ≡ length (g .pending)
+      → Inv (sharedOf m′) g′ → Grows (sharedOf m) g (sharedOf m′) g′ → ((u : ℕ) → u ≢ i → Spares (sharedOf m) g (sharedOf m′) g′ u)
+      → Knows (sharedOf m′) g′ i row → Ok m′ g′
+  put-back m′ g′ row rows nodes pendings inv grows spares knows = record {
+    inv = inv;
+    knows = λ u h. elim (ℕ-discrete u i) [ yes e ↦ own u e | no ne ↦ other u ne h ];
+    rows = ap length rows ∙ length-set (m .rows) i row ∙ ok .rows;
+    pendings = pendings ∙ ok .pendings;
+    sized = subst (λ (n : ℕ). n ≤ 512) (sym nodes) (ok .sized);
+  }
+    where
+      own : (u : ℕ) → u ≡ i → Knows (sharedOf m′) g′ u (rowAt m′ u)
+      own u e =
+          let here : rowAt m′ i ≡ row = ap (λ (l : List Row). getD l i noRow) rows ∙ getD-set-same (m .rows) i row noRow (omega (arith, ok .rows)) in
+          subst (λ (v : ℕ). Knows (sharedOf m′) g′ v (rowAt m′ v)) (sym e) (subst (Knows (sharedOf m′) g′ i) (sym here) knows)
+
+      other : (u : ℕ) → u ≢ i → u < 8 → Knows (sharedOf m′) g′ u (rowAt m′ u)
+      other u ne h =
+          let there : rowAt m′ u ≡ rowAt m u = ap (λ (l : List Row). getD l u noRow) rows ∙ getD-set-other (m .rows) i u row noRow ne in
+          subst (Knows (sharedOf m′) g′ u) (sym there) (knows-stays grows (spares u ne) (rowAt m u) (ok .knows u h))
+
+-- nothing pending: an idle row after a single call
+pub nothing-private : (s : Shared) (g : Ghost) (t : ℕ) (r : Row) → r .tally .enqueues ≡ 0 → Pending s g t r
+unfolding at
+nothing-private s g t r e = record {
+  nodes = [];
+  private = record {
+    mine = λ k n p. absurd (none-is-not-some refl p);
+    chain = record { links = λ k n p. absurd (none-is-not-some refl p); once = λ a b n p q. absurd (none-is-not-some refl p) };
+  };
+  many = sym e;
+  firstIs = λ n p. absurd (none-is-not-some refl p);
+  lastIs = λ k n q p. absurd (none-is-not-some refl p);
+}
+
+pub alone-tally : (g : Ghost) (t : ℕ) (r : Row) → Tallied g t r → Alone g t → r .tally .enqueues ≡ 0
+unfolding enqueued
+alone-tally g t r h e = ap (λ (x : Tally). x .enqueues) (h .tally ∙ ap tallyOf e)
+
+-- what is known does not depend on the place that the row names, nor on what is not its tally, first and last node
+module _ (s : Shared) (g : Ghost) (t : ℕ) (r r′ : Row) (tally : r′ .tally ≡ r .tally) (first : r′ .first ≡ r .first) (last : r′ .last ≡ r .last) where
+  same-pending : Pending s g t r → Pending s g t r′
+  same-pending h = record {
+    nodes = h .nodes;
+    private = h .private;
+    many = h .many ∙ sym (ap (λ (x : Tally). x .enqueues) tally);
+    firstIs = λ n p. h .firstIs n p ∙ sym first;
+    lastIs = λ k n q p. h .lastIs k n q p ∙ sym last;
+  }
+
+  same-own : (b : ℕ) → Own s g t b r → Own s g t b r′
+  same-own b h = record { first = h .first ∙ sym first; last = h .last ∙ sym last; batch = h .batch; is = h .is; calls = h .calls }
+
+  dequeues-only : r .tally .enqueues ≡ 0 → r′ .tally .enqueues ≡ 0
+  dequeues-only e = ap (λ (x : Tally). x .enqueues) tally ∙ e
+
+  same-resume : (a : ℕ) (k : Resume) → KnowsResume s g t a r k → KnowsResume s g t a r′ k
+  same-resume a (resume.Enqueue n) h = h
+  same-resume a resume.Dequeue h = h
+  same-resume a (resume.Batch b) h = (h .0, same-own b (h .1))
+  same-resume a resume.Dequeues h = dequeues-only h
+  same-resume a resume.Own h = same-own a h
+
+  pub same-place : (p : Place) → KnowsAt s g t r p → KnowsAt s g t r′ p
+  same-place Idle h = same-pending h
+  same-place (Enqueue n x) h = h
+  same-place (Dequeue x) h = h
+  same-place (Batch b x) h = (h .0, same-own b (h .1))
+  same-place (Dequeues x) h = (h .0, dequeues-only (h .1))
+  same-place (Running a x k) h = (h .0, same-resume a k (h .1), h .2)
