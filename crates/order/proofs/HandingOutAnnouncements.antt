@@ -12,7 +12,7 @@ use Rattle.memory.specs.declared.OldTail.the-variants.{Unset}
 use Rattle.memory.specs.declared.Request.{Request}
 use Rattle.memory.specs.declared.Announcement.{Announcement}
 use Rattle.memory.specs.Memory.{announcementAt}
-use Rattle.order.specs.Ghost.{Ghost, Batch}
+use Rattle.order.specs.Ghost.{Ghost, Batch, announces}
 use Rattle.order.proofs.Shared.{Shared, announcing, announcement-set, other-announcement}
 use Rattle.order.proofs.Invariant.{FrontAt, Shape, Asks, Inv}
 use Rattle.order.proofs.Knows.{Mine, Private, NotAnnounced, requestOf}
@@ -32,10 +32,6 @@ announcementHandedOut s k = record {
   nodes = s .nodes;
   announced = s .announced + 1;
 }
-
--- .. is thread t's, for batch b
-abbrev pub announces : Ghost → ℕ → Batch → Ghost
-announces g t b = sameChain g (g .installed) (g .nodeOwners) (g .announcementOwners ++ (t ∷ [])) (g .batches ++ (b ∷ []))
 
 module _ (s : Shared) (g : Ghost) (i : Inv s g) (t : ℕ) (k : Request) (b : Batch) (asks : Asks (asking k) b) (private : Private s g t (b .nodes))
     (room : s .announced < 64) where

@@ -21,3 +21,8 @@ pub mod Deferring
 pub mod Together
 pub mod Steps
 pub mod MachineSteps
+pub mod Accepted
+pub mod Deferred
+pub mod SettingOff
+pub mod ContentsWalk
+pub mod AbstractHead

@@ -18,6 +18,7 @@ use Rattle.memory.specs.declared.Link.the-variants.{None, To}
 use Rattle.memory.specs.declared.Announcement.{Announcement}
 use Rattle.memory.specs.Memory.{Memory, cellAt, announcementAt, noCell, noAnnouncement}
 use Rattle.machine.specs.declared.Machine.{Machine}
+pub use Rattle.order.specs.Links.{led, next}
 
 pub record Shared : Type 0 where
   pub head : Head
@@ -70,15 +71,6 @@ tailIf false s t = s
 abbrev pub headIf : Bool → Shared → Head → Shared
 headIf true s h = withHead s h
 headIf false s h = s
-
--- the node that a link leads to
-abbrev pub led : Link → Option ℕ
-led None = none
-led (To x) = some x
-
--- the node linked behind a node
-abbrev pub next : List Cell → ℕ → Option ℕ
-next links n = led (cellAt links n .link)
 
 pub no-link : (l : Link) → led l ≡ none → l ≡ None
 no-link None e = refl

@@ -127,6 +127,16 @@ module _ (m : Machine) (g : Ghost) (ok : Ok m g) (i : ℕ) (lt : i < 8) where
           let there : rowAt m′ u ≡ rowAt m u = ap (λ (l : List Row). getD l u noRow) rows ∙ getD-set-other (m .rows) i u row noRow ne in
           subst (Knows (sharedOf m′) g′ u) (sym there) (knows-stays grows (spares u ne) (rowAt m u) (ok .knows u h))
 
+  -- the same where what is shared is known as s′
+  pub put-back-as : (m′ : Machine) (g′ : Ghost) (s′ : Shared) → sharedOf m′ ≡ s′ → (row : Row) → m′ .rows ≡ set (m .rows) i row → m′ .nodes ≡ m .nodes
+      → length (g′ .pending) ≡ length (g .pending) → Inv s′ g′ → Grows (sharedOf m) g s′ g′ → ((u : ℕ) → u ≢ i → Spares (sharedOf m) g s′ g′ u) → Knows s′ g′ i row → Ok m′ g′
+  put-back-as m′ g′ s′ e row rows nodes pendings inv grows spares knows =
+      put-back m′ g′ row rows nodes pendings
+      (subst (λ (x : Shared). Inv x g′) (sym e) inv)
+      (subst (λ (x : Shared). Grows (sharedOf m) g x g′) (sym e) grows)
+      (λ u ne. subst (λ (x : Shared). Spares (sharedOf m) g x g′ u) (sym e) (spares u ne))
+      (subst (λ (x : Shared). Knows x g′ i row) (sym e) knows)
+
 -- nothing pending: an idle row after a single call
 pub nothing-private : (s : Shared) (g : Ghost) (t : ℕ) (r : Row) → r .tally .enqueues ≡ 0 → Pending s g t r
 unfolding at

@@ -1,0 +1,94 @@
+-- What is known of an entry that is accepted: the thread is idle, and what the entry needs is left. And the tally of one more pending call.
+use Prim.Native.Nat.{ℕ, _+_, _^_, _<_, _≤_}
+use mathlib.Core.Path.{_≡_, refl, sym, ap, _∙_}
+use mathlib.Core.Bool.{Bool, true, false, cond, _&&_}
+use mathlib.Core.List.{List, [], _∷_, _++_}
+use native.Mathlib.Omega.{arith}
+use lib.Dec.{leb}
+use lib.ListN.{length, length-append}
+use borrow.Author.Tests.{leb-false}
+use Rattle.refusal.specs.declared.Refusal.{Refusal}
+use Rattle.tally.specs.Fifo.{Call}
+use Rattle.tally.specs.Tally.{tallyOf, nothingPending, with, keptUp}
+use Rattle.tally.specs.declared.Tally.{Tally}
+use Rattle.tally.proofs.KeptUp.{kept-up-is-tally}
+use Rattle.thread.specs.declared.Place.{Place}
+use Rattle.thread.specs.declared.Place.the-variants.{Idle, Enqueue, Dequeue, Batch, Dequeues, Running}
+use Rattle.thread.specs.Place.{idle}
+use Rattle.row.specs.declared.Row.{Row}
+use Rattle.call.specs.declared.answer.Verdict.{Verdict}
+use Rattle.call.specs.declared.answer.Verdict.the-variants.{Accepted, Refused}
+use Rattle.call.specs.declared.test.Used.{Used}
+use Rattle.call.specs.declared.test.Needs.{Needs}
+use Rattle.call.specs.Refusals.{first, callable, short, lacking, callVerdict}
+
+not-refused : {A : Type 0} {r : Refusal} → Refused r ≡ Accepted → A
+not-refused e = absurd (let z : _≡_ {A = ℕ} 0 1 = cc in omega arith)
+
+both-accepted : (v w : Verdict) → first v w ≡ Accepted → (v ≡ Accepted) × (w ≡ Accepted)
+both-accepted Accepted w e = (refl, e)
+both-accepted (Refused r) w e = not-refused e
+
+passed : (b : Bool) (r : Refusal) (w : Verdict) → cond b (Refused r) w ≡ Accepted → (b ≡ false) × (w ≡ Accepted)
+passed true r w e = not-refused e
+passed false r w e = (refl, e)
+
+true-where-accepted : (b : Bool) (r : Refusal) → cond b Accepted (Refused r) ≡ Accepted → b ≡ true
+true-where-accepted true r e = refl
+true-where-accepted false r e = not-refused e
+
+false-is-not-true : {A : Type 0} → false ≡ true → A
+false-is-not-true e = absurd (let z : _≡_ {A = ℕ} 0 1 = cc in omega arith)
+
+idle-place : (p : Place) → idle p ≡ true → p ≡ Idle
+idle-place Idle e = refl
+idle-place (Enqueue n x) e = false-is-not-true e
+idle-place (Dequeue x) e = false-is-not-true e
+idle-place (Batch b x) e = false-is-not-true e
+idle-place (Dequeues x) e = false-is-not-true e
+idle-place (Running a x k) e = false-is-not-true e
+
+pub callable-is-idle : (t threads : ℕ) (p : Place) → callable t threads p ≡ Accepted → p ≡ Idle
+callable-is-idle t threads p e = idle-place p (true-where-accepted (idle p) _ (passed (leb threads t) _ _ e .1))
+
+is-left : (needed : Bool) (used all : ℕ) → short needed used all ≡ false → needed ≡ true → used < all
+is-left true used all e n = leb-false all used e
+is-left false used all e n = false-is-not-true n
+
+-- what is needed is left
+pub record Left (n : Needs) (u : Used) (nodes pending : ℕ) : Type 0 where
+  pub node : n .node ≡ true → u .nodes < nodes
+  pub future : n .future ≡ true → u .futures < 512
+  pub place : n .future ≡ true → pending < 32
+  pub announcement : n .announcement ≡ true → u .announcements < 64
+
+pub nothing-lacks : (n : Needs) (u : Used) (nodes pending : ℕ) → lacking n u nodes pending ≡ Accepted → Left n u nodes pending
+nothing-lacks n u nodes pending e =
+    let a = passed (short (n .node) (u .nodes) nodes) _ _ e in
+    let b = passed (short (n .future) (u .futures) 512) _ _ (a .1) in
+    let c = passed (short (n .future) pending 32) _ _ (b .1) in
+    let d = passed (short (n .announcement) (u .announcements) 64) _ _ (c .1) in
+    record {
+      node = is-left (n .node) (u .nodes) nodes (a .0);
+      future = is-left (n .future) (u .futures) 512 (b .0);
+      place = is-left (n .future) pending 32 (c .0);
+      announcement = is-left (n .announcement) (u .announcements) 64 (d .0);
+    }
+
+pub call-accepted : (t threads : ℕ) (r : Row) (u : Used) (nodes : ℕ) (n : Needs) → callVerdict t threads r u nodes n ≡ Accepted
+    → (r .place ≡ Idle) × Left n u nodes (r .count)
+call-accepted t threads r u nodes n e =
+    let w = both-accepted (callable t threads (r .place)) (lacking n u nodes (r .count)) e in
+    (callable-is-idle t threads (r .place) (w .0), nothing-lacks n u nodes (r .count) (w .1))
+
+-- one more pending call, kept up in the tally
+kept-up-one-more : {A : Type 0} (t : Tally) (cs : List (Call A)) (c : Call A) → keptUp t (cs ++ (c ∷ [])) ≡ with (keptUp t cs) c
+unfolding keptUp
+kept-up-one-more t [] c = refl
+kept-up-one-more t (x ∷ cs) c = kept-up-one-more (with t x) cs c
+
+pub tally-one-more : {A : Type 0} (cs : List (Call A)) (c : Call A) → length cs ≤ 32 → tallyOf (cs ++ (c ∷ [])) ≡ with (tallyOf cs) c
+tally-one-more cs c h =
+    sym (kept-up-is-tally (cs ++ (c ∷ [])) (omega (arith, length-append cs (c ∷ []))))
+    ∙ kept-up-one-more nothingPending cs c
+    ∙ ap (λ (t : Tally). with t c) (kept-up-is-tally cs (omega arith))

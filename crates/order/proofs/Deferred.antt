@@ -1,0 +1,211 @@
+-- Deferred calls: FutureEnqueue hands out a node and links it behind the thread's pending ones, FutureDequeue only counts. Both keep the invariant.
+use Prim.Native.Nat.{ℕ, zero, suc, _+_, _%_, _^_, _<_, _≤_}
+use mathlib.Core.Path.{_≡_, refl, sym, ap, _∙_, subst}
+use mathlib.Core.Bool.{Bool, true, false, cond}
+use mathlib.Core.List.{List, [], _∷_, _++_}
+use mathlib.Core.Logic.{inl, inr, ⊎-elim, _≢_}
+use native.Mathlib.Omega.{arith}
+use native.Mathlib.Nat.{mod-eq-of-lt}
+use lib.Dec.{eqb}
+use lib.ListN.{length, getD, set, length-set, length-append}
+use lib.Seq.{getD-set-same}
+use borrow.Author.Tests.{eq-eqb, ne-eqb}
+use Rattle.chain.specs.Positions.{at, At}
+use Rattle.chain.proofs.Positions.{none-is-not-some, within, element, there-or-at-the-end, length-one-more, the-only-one, one-element, stays}
+use Rattle.tally.specs.Fifo.{Call, enqueue, dequeue}
+use Rattle.tally.specs.Excess.{enqueued}
+use Rattle.tally.specs.Tally as tally
+use Rattle.tally.specs.Tally.{tallyOf, with}
+use Rattle.tally.specs.declared.Tally.{Tally}
+use Rattle.memory.specs.declared.Cell.{Cell}
+use Rattle.memory.specs.declared.Link.the-variants.{To}
+use Rattle.memory.specs.Memory.{noCell}
+use Rattle.thread.specs.declared.Place.the-variants.{Idle}
+use Rattle.row.specs.declared.Row.{Row}
+use Rattle.row.specs.Row.{withEnqueue, withDequeue, firstWith}
+use Rattle.call.specs.declared.answer.Item.{Item}
+use Rattle.call.specs.Next.{nextNode, nextFuture}
+use Rattle.machine.specs.declared.Machine.{Machine}
+use Rattle.machine.specs.State.{rowAt}
+use Rattle.machine.specs.Entries.{linkedBehind, deferEnqueue, deferDequeue}
+use Rattle.order.specs.Ghost.{Ghost, pendingOf, owns, defers, deferEnqueueGhost, deferDequeueGhost}
+use Rattle.order.proofs.Shared.{Shared, sharedOf}
+use Rattle.order.proofs.Invariant.{Inv}
+use Rattle.order.proofs.Knows.{Private, Pending, Tallied, KnowsAt, Knows}
+use Rattle.order.proofs.Grows.{Grows, Spares, private-stays}
+use Rattle.order.proofs.HandingOutNodes.{nodeHandedOut, linkedTo, new-node-inv, new-node-grows, new-node-spares, first-pending, next-pending-inv, next-pending-grows, next-pending-spares, next-pending}
+use Rattle.order.proofs.Deferring.{deferred-inv, deferred-grows, deferred-spares, deferred-private, deferred-pending}
+use Rattle.order.proofs.Together.{grows-then-grows, spares-then-spares}
+use Rattle.order.proofs.Accepted.{tally-one-more}
+use Rattle.order.proofs.Steps.{Ok, put-back, put-back-as}
+
+-- the enqueues among calls are not more than the calls
+enqueues-are-calls : (cs : List (Call ℕ)) → length (enqueued cs) ≤ length cs
+unfolding enqueued
+enqueues-are-calls [] = omega arith
+enqueues-are-calls (enqueue v ∷ cs) = omega (arith, enqueues-are-calls cs)
+enqueues-are-calls (dequeue ∷ cs) = omega (arith, enqueues-are-calls cs)
+
+-- a row's tally with one more call
+more-tallied : (g : Ghost) (t : ℕ) (r r′ : Row) (c : Call ℕ) → Tallied g t r → r .count < 32 → t < length (g .pending)
+    → r′ .tally ≡ with (r .tally) c → r′ .count ≡ tally.up (r .count) → Tallied (defers g t (pendingOf g t ++ (c ∷ []))) t r′
+more-tallied g t r r′ c h few lt tallies counts =
+    let is : pendingOf (defers g t (pendingOf g t ++ (c ∷ []))) t ≡ pendingOf g t ++ (c ∷ []) = getD-set-same (g .pending) t (pendingOf g t ++ (c ∷ [])) [] lt in
+    let longer = length-one-more (pendingOf g t) c in
+    let counted : tally.up (r .count) ≡ length (pendingOf (defers g t (pendingOf g t ++ (c ∷ []))) t) = omega (arith, ap length is, longer, h .count) in
+    record {
+      tally = tallies ∙ ap (λ (x : Tally). with x c) (h .tally) ∙ sym (tally-one-more (pendingOf g t) c (h .few)) ∙ sym (ap tallyOf is);
+      count = counts ∙ counted;
+      few = omega (arith, ap length is, longer, h .count);
+    }
+
+module _ (m : Machine) (g : Ghost) (ok : Ok m g) (i : ℕ) (lt : i < 8) (idle : rowAt m i .place ≡ Idle) where
+  abbrev s : Shared
+  s = sharedOf m
+
+  abbrev r : Row
+  r = rowAt m i
+
+  pub pending-here : Pending (sharedOf m) g i (rowAt m i)
+  pending-here = subst (KnowsAt (sharedOf m) g i (rowAt m i)) idle (ok .knows i lt .place)
+
+  tallied-here : Tallied g i (rowAt m i)
+  tallied-here = ok .knows i lt .tallied
+
+  room-for-calls : i < length (g .pending)
+  room-for-calls = omega (arith, ok .pendings)
+
+  -- FutureDequeue
+  pub defer-dequeue-keeps : rowAt m i .count < 32 → Ok (deferDequeue m i) (deferDequeueGhost g i)
+  unfolding deferDequeue
+  defer-dequeue-keeps few =
+      put-back m g ok i lt (deferDequeue m i) g′ row refl refl (length-set (g .pending) i _)
+      (deferred-inv s g i cs (ok .inv)) (deferred-grows s g i cs) (λ u ne. deferred-spares s g i cs u ne)
+      (record {
+        tallied = more-tallied g i r row dequeue tallied-here few room-for-calls refl refl;
+        place = subst (KnowsAt s g′ i row) (sym idle) pending;
+      })
+    where
+      cs : List (Call ℕ)
+      cs = pendingOf g i ++ (dequeue ∷ [])
+
+      g′ : Ghost
+      g′ = defers g i cs
+
+      row : Row
+      row = withDequeue (rowAt m i) (nextFuture (m .used))
+
+      pending : Pending (sharedOf m) (defers g i (pendingOf g i ++ (dequeue ∷ []))) i row
+      pending =
+          let h = pending-here in
+          record { nodes = h .nodes; private = deferred-private s g i cs (h .private); many = h .many; firstIs = h .firstIs; lastIs = h .lastIs }
+
+  -- FutureEnqueue: the node is the first pending one, or stands behind the last
+  module _ (v : Item) (left : m .used .nodes < m .nodes) (few : rowAt m i .count < 32) where
+    small : m .used .nodes < 512
+    small = omega (arith, ok .sized)
+
+    number : nextNode (m .used) ≡ m .used .nodes
+    number = mod-eq-of-lt small
+
+    one-more : tally.up (m .used .nodes) ≡ m .used .nodes + 1
+    one-more = omega arith
+
+    abbrev g₁ : Ghost
+    g₁ = owns g i
+
+    abbrev g₂ : Ghost
+    g₂ = deferEnqueueGhost g i (v .value)
+
+    abbrev row : Row
+    row = withEnqueue (rowAt m i) (nextFuture (m .used)) (nextNode (m .used))
+
+    abbrev after : Shared
+    after = sharedOf (deferEnqueue m i v)
+
+    abbrev free : List Cell
+    free = set (m .links) (nextNode (m .used)) noCell
+
+    shared-first : rowAt m i .tally .enqueues ≡ 0 → sharedOf (deferEnqueue m i v) ≡ nodeHandedOut (sharedOf m)
+    unfolding deferEnqueue linkedBehind
+    shared-first e =
+        let none : eqb (rowAt m i .tally .enqueues) 0 ≡ true = eq-eqb _ 0 e in
+        let ls = ap (λ (b : Bool). cond b free (set free (rowAt m i .last % 512) (record { link = To (nextNode (m .used)) }))) none in
+        λ k. record { head = m .ends .head; tail = m .ends .tail; links = ls k; announcements = m .announcements; nodes = one-more k; announced = m .used .announcements }
+
+    shared-next : rowAt m i .tally .enqueues ≢ 0 → sharedOf (deferEnqueue m i v) ≡ linkedTo (nodeHandedOut (sharedOf m)) (rowAt m i .last) (m .used .nodes)
+    unfolding deferEnqueue linkedBehind
+    shared-next ne =
+        let some : eqb (rowAt m i .tally .enqueues) 0 ≡ false = ne-eqb _ 0 ne in
+        let ls = ap (λ (b : Bool). cond b free (set free (rowAt m i .last % 512) (record { link = To (nextNode (m .used)) }))) some
+        ∙ ap (λ (n : ℕ). set free (rowAt m i .last % 512) (record { link = To n })) number in
+        λ k. record { head = m .ends .head; tail = m .ends .tail; links = ls k; announcements = m .announcements; nodes = one-more k; announced = m .used .announcements }
+
+    row-tallied : Tallied g₂ i row
+    row-tallied =
+        let h = tallied-here in
+        more-tallied g₁ i (rowAt m i) row (enqueue (v .value)) (record { tally = h .tally; count = h .count; few = h .few }) few room-for-calls refl refl
+
+    fewer : rowAt m i .tally .enqueues ≤ 32
+    fewer = let h = tallied-here in omega (arith, ap (λ (x : Tally). x .enqueues) (h .tally), enqueues-are-calls (pendingOf g i), h .few)
+
+    -- the row after it, for a pending list that ends in the new node
+    row-knows : (s′ : Shared) (l : List ℕ) → length l ≡ rowAt m i .tally .enqueues → ((n : ℕ) → At l 0 n → n ≡ rowAt m i .first)
+        → Private s′ g₁ i (l ++ (m .used .nodes ∷ [])) → Knows s′ g₂ i row
+    row-knows s′ l many first private = record {
+      tallied = row-tallied;
+      place = subst (KnowsAt s′ g₂ i row) (sym idle) (record {
+        nodes = l ++ (m .used .nodes ∷ []);
+        private = deferred-private s′ g₁ i _ private;
+        many = omega (arith, length-one-more l (m .used .nodes), many, fewer);
+        firstIs = λ n p. ⊎-elim (still-first n) (now-first n) (there-or-at-the-end l (m .used .nodes) 0 p);
+        lastIs = λ k n q p. ⊎-elim (λ w. absurd (let z = within l k w in omega (arith, length-one-more l (m .used .nodes)))) (λ w. w .1 ∙ sym number) (there-or-at-the-end l (m .used .nodes) k p);
+      });
+    }
+      where
+        still-first : (n : ℕ) → At l 0 n → n ≡ firstWith (rowAt m i) (nextNode (m .used))
+        still-first n p =
+            let some : eqb (rowAt m i .tally .enqueues) 0 ≡ false = ne-eqb (rowAt m i .tally .enqueues) 0 (λ e. let z = within l 0 p in let n : rowAt m i .tally .enqueues ≡ 0 = e in omega (arith, many)) in
+            first n p ∙ sym (ap (λ (b : Bool). cond b (nextNode (m .used)) (rowAt m i .first)) some)
+
+        now-first : (n : ℕ) → (0 ≡ length l) × (n ≡ m .used .nodes) → n ≡ firstWith (rowAt m i) (nextNode (m .used))
+        now-first n w =
+            let none : eqb (rowAt m i .tally .enqueues) 0 ≡ true = eq-eqb _ 0 (sym (w .0 ∙ many)) in
+            w .1 ∙ sym number ∙ sym (ap (λ (b : Bool). cond b (nextNode (m .used)) (rowAt m i .first)) none)
+
+    longer : length (g₂ .pending) ≡ length (g .pending)
+    longer = length-set (g .pending) i _
+
+    row-put : deferEnqueue m i v .rows ≡ set (m .rows) i row
+    unfolding deferEnqueue linkedBehind
+    row-put = refl
+
+    nodes-same : deferEnqueue m i v .nodes ≡ m .nodes
+    unfolding deferEnqueue linkedBehind
+    nodes-same = refl
+
+    keeps-as : (s′ : Shared) → sharedOf (deferEnqueue m i v) ≡ s′ → Inv s′ g₁ → Grows (sharedOf m) g s′ g₁ → ((u : ℕ) → u ≢ i → Spares (sharedOf m) g s′ g₁ u)
+        → Knows s′ g₂ i row → Ok (deferEnqueue m i v) g₂
+    keeps-as s′ e inv grows spares knows =
+        let cs = pendingOf g i ++ (enqueue (v .value) ∷ []) in
+        put-back-as m g ok i lt (deferEnqueue m i v) g₂ s′ e row row-put nodes-same longer (deferred-inv s′ g₁ i cs inv) (grows-then-grows grows (deferred-grows s′ g₁ i cs))
+        (λ u ne. spares-then-spares (spares u ne) (deferred-spares s′ g₁ i cs u ne)) knows
+
+    by-nodes : (l : List ℕ) → Private (sharedOf m) g i l → length l ≡ rowAt m i .tally .enqueues → ((n : ℕ) → At l 0 n → n ≡ rowAt m i .first)
+        → ((k n : ℕ) → suc k ≡ length l → At l k n → n ≡ rowAt m i .last) → Ok (deferEnqueue m i v) g₂
+    by-nodes [] private many first last =
+        keeps-as (nodeHandedOut (sharedOf m)) (shared-first (sym many)) (new-node-inv (sharedOf m) g (ok .inv) i small) (new-node-grows (sharedOf m) g (ok .inv) i small)
+        (λ u ne. new-node-spares (sharedOf m) g (ok .inv) i small u)
+        (row-knows (nodeHandedOut (sharedOf m)) [] many first (first-pending (sharedOf m) g (ok .inv) i small))
+    by-nodes (x ∷ l) private many first last =
+        let e = element (x ∷ l) (length l) (omega arith) in
+        let same : e .0 ≡ rowAt m i .last = last (length l) (e .0) refl (e .1) in
+        let end : At (x ∷ l) (length l) (rowAt m i .last) = subst (At (x ∷ l) (length l)) same (e .1) in
+        keeps-as (linkedTo (nodeHandedOut (sharedOf m)) (rowAt m i .last) (m .used .nodes)) (shared-next (λ q. omega (arith, many)))
+        (next-pending-inv (sharedOf m) g (ok .inv) i small (x ∷ l) private (length l) (rowAt m i .last) end refl)
+        (next-pending-grows (sharedOf m) g (ok .inv) i small (x ∷ l) private (length l) (rowAt m i .last) end refl)
+        (next-pending-spares (sharedOf m) g (ok .inv) i small (x ∷ l) private (length l) (rowAt m i .last) end refl)
+        (row-knows _ (x ∷ l) many first (next-pending (sharedOf m) g (ok .inv) i small (x ∷ l) private (length l) (rowAt m i .last) end refl))
+
+    pub defer-enqueue-keeps : Ok (deferEnqueue m i v) (deferEnqueueGhost g i (v .value))
+    defer-enqueue-keeps = let h = pending-here in by-nodes (h .nodes) (h .private) (h .many) (h .firstIs) (h .lastIs)
