@@ -26,3 +26,7 @@ pub mod Deferred
 pub mod SettingOff
 pub mod ContentsWalk
 pub mod AbstractHead
+pub mod Entries
+pub mod PairingWalks
+pub mod PairingSteps
+pub mod PairingCounts

@@ -1,0 +1,107 @@
+-- How many enqueues pairing pays. Each turn's call is the one that its future was handed out for, and paying a future leaves that as it was; so
+-- where the futures of the pending calls are flagged as those calls are, the turns have as many enqueues as the calls, which is the row's tally.
+use Prim.Native.Nat.{ℕ, zero, suc, _+_, _%_, _<_, _≤_}
+use mathlib.Core.Path.{_≡_, refl, sym, ap, _∙_, subst}
+use mathlib.Core.Bool.{Bool, true, false, cond}
+use mathlib.Core.List.{List, [], _∷_}
+use native.Mathlib.Omega.{arith}
+use lib.ListN.{length, getD, set}
+use Rattle.chain.specs.Positions.{at, At}
+use Rattle.tally.specs.Fifo.{Call, enqueue, dequeue}
+use Rattle.tally.specs.Excess.{enqueued, enqueues}
+use Rattle.tally.specs.declared.Tally.{Tally}
+use Rattle.memory.specs.declared.Cell.{Cell}
+use Rattle.thread.specs.declared.After.{After}
+use Rattle.thread.specs.declared.After.the-variants as afterwards
+use Rattle.thread.specs.Place.{placeAfter}
+use Rattle.row.specs.declared.Row.{Row}
+use Rattle.row.specs.Row.{placed}
+use Rattle.call.specs.declared.answer.Item.{Item}
+use Rattle.call.specs.declared.answer.Outcome.{Outcome}
+use Rattle.call.specs.declared.answer.Future.{Future}
+use Rattle.call.specs.declared.pairing.Cursor.{Cursor}
+use Rattle.machine.specs.declared.Machine.{Machine}
+use Rattle.machine.specs.State.{rowAt, memoryOf, noFuture}
+use Rattle.machine.specs.Pairing.{done}
+use Rattle.machine.specs.Steps.{hop}
+use Rattle.order.specs.Ghost.{Ghost, pendingOf, stepGhost}
+use Rattle.order.specs.PairingReads.{AllStayOn, futureAt, withOutcome, turns, enqueuesAmong, batchCursor, dequeuesCursor, turnsFrom, turnsAfter}
+use Rattle.order.proofs.Knows.{Tallied}
+use Rattle.order.proofs.Steps.{Ok}
+use Rattle.order.proofs.PairingSteps.{row-left, pairing-stays-on}
+
+abbrev pub isEnqueue : Call ℕ → Bool
+isEnqueue (enqueue v) = true
+isEnqueue dequeue = false
+
+-- the futures of the pending calls, from the k-th pending place on, are flagged as the calls are
+abbrev pub FlaggedFrom : ℕ → List ℕ → List Future → List (Call ℕ) → Type 0
+FlaggedFrom k pending fs cs = (j : ℕ) (c : Call ℕ) → At cs j c → futureAt pending (k + j) fs .enqueue ≡ isEnqueue c
+
+abbrev pub Flagged : List ℕ → List Future → List (Call ℕ) → Type 0
+Flagged pending fs cs = FlaggedFrom 0 pending fs cs
+
+-- a future that becomes done keeps its flag
+flags-stay : (fs : List Future) (i j : ℕ) (o : Outcome) → getD (set fs i (done (getD fs i noFuture) o)) j noFuture .enqueue ≡ getD fs j noFuture .enqueue
+flags-stay [] i j o = refl
+flags-stay (x ∷ fs) zero zero o = refl
+flags-stay (x ∷ fs) zero (suc j) o = refl
+flags-stay (x ∷ fs) (suc i) zero o = refl
+flags-stay (x ∷ fs) (suc i) (suc j) o = flags-stay fs i j o
+
+one-more-or-not : (b : Bool) (n : ℕ) (x : Call ℕ) (cs : List (Call ℕ)) → b ≡ isEnqueue x → n ≡ enqueues cs → cond b (suc n) n ≡ enqueues (x ∷ cs)
+unfolding enqueued
+one-more-or-not b n (enqueue v) cs e h = rw e (ap suc h)
+one-more-or-not b n dequeue cs e h = rw e h
+
+module _ (links : List Cell) (items : List Item) (last : ℕ) (pending : List ℕ) where
+  pub as-many-turns-as-calls : (cs : List (Call ℕ)) (k : ℕ) (fs : List Future) (c : Cursor) → FlaggedFrom k pending fs cs
+      → enqueuesAmong (turns (length cs) links items last pending k fs c) ≡ enqueues cs
+  unfolding turns enqueuesAmong enqueued at
+  as-many-turns-as-calls [] k fs c flagged = refl
+  as-many-turns-as-calls (x ∷ cs) k fs c flagged = one-more-or-not _ _ x cs now (as-many-turns-as-calls cs (k + 1) _ _ (later _))
+    where
+      now : futureAt pending k fs .enqueue ≡ isEnqueue x
+      now = subst (λ (p : ℕ). futureAt pending p fs .enqueue ≡ isEnqueue x) (let z : k + 0 ≡ k = omega arith in z) (flagged 0 x refl)
+
+      later : (o : Outcome) → FlaggedFrom (k + 1) pending (withOutcome pending k fs o) cs
+      later o j y h =
+          flags-stay fs _ _ o
+          ∙ subst (λ (p : ℕ). futureAt pending p fs .enqueue ≡ isEnqueue y) (let z : k + suc j ≡ k + 1 + j = omega arith in z) (flagged (suc j) y h)
+
+futures-kept : (m : Machine) (i : ℕ) → hop m i .machine .futures ≡ m .futures
+unfolding hop
+futures-kept m i = refl
+
+-- at a step's end: the row's count and pending places are those of before, and so are the futures
+module _ (m : Machine) (g : Ghost) (i : ℕ) (r : Row) (count : rowAt m i .count ≡ r .count) (pending : rowAt m i .pending ≡ r .pending)
+    (tallied : Tallied g i r) (flagged : Flagged (r .pending) (m .futures) (pendingOf g i)) where
+  turns-have-the-tally : (c : Cursor) → enqueuesAmong (turnsFrom m i c) ≡ r .tally .enqueues
+  turns-have-the-tally c =
+      let many : rowAt m i .count % 33 ≡ length (pendingOf g i) = omega (arith, count, tallied .count, tallied .few) in
+      ap (λ (n : ℕ). enqueuesAmong (turns n (m .links) (m .items) (rowAt m i .last) (rowAt m i .pending) 0 (m .futures) c)) many
+      ∙ as-many-turns-as-calls (m .links) (m .items) (rowAt m i .last) (rowAt m i .pending) (pendingOf g i) 0 (m .futures) c
+      (subst (λ (l : List ℕ). Flagged l (m .futures) (pendingOf g i)) (sym pending) flagged)
+      ∙ sym (ap (λ (x : Tally). x .enqueues) (tallied .tally))
+
+  few-enough : (a : After) → enqueuesAmong (turnsAfter m i a) ≤ r .tally .enqueues
+  unfolding enqueuesAmong
+  few-enough (afterwards.On p) = omega arith
+  few-enough afterwards.Ok = omega arith
+  few-enough afterwards.Empty = omega arith
+  few-enough (afterwards.Item x) = omega arith
+  few-enough (afterwards.Pair from) = omega (arith, turns-have-the-tally (batchCursor from (rowAt m i .first)))
+  few-enough (afterwards.PairDequeues from taken) = omega (arith, turns-have-the-tally (dequeuesCursor from taken))
+
+-- the step that ends a batch's call never leaves the chain
+pub flagged-pairing-stays-on : (m : Machine) (g : Ghost) (ok : Ok m g) (i : ℕ) (lt : i < 8) → Flagged (rowAt m i .pending) (m .futures) (pendingOf g i)
+    → AllStayOn (hop m i .machine .links) (stepGhost (memoryOf m) g (rowAt m i .place) .chain) (turnsAfter (hop m i .machine) i (hop m i .after))
+flagged-pairing-stays-on m g ok i lt flagged =
+    pairing-stays-on m g ok i lt
+    (few-enough (hop m i .machine) g i (rowAt m i) (ap (λ (r : Row). r .count) row) (ap (λ (r : Row). r .pending) row) (ok .knows i lt .tallied) kept (hop m i .after))
+  where
+    row : rowAt (hop m i .machine) i ≡ placed (rowAt m i) (placeAfter (hop m i .after))
+    row = row-left m g ok i lt
+
+    kept : Flagged (rowAt m i .pending) (hop m i .machine .futures) (pendingOf g i)
+    kept = subst (λ (fs : List Future). Flagged (rowAt m i .pending) fs (pendingOf g i)) (sym (futures-kept m i)) flagged
