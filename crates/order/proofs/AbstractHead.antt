@@ -39,6 +39,7 @@ use Rattle.machine.specs.declared.Machine.{Machine}
 use Rattle.machine.specs.State.{noItem}
 use Rattle.machine.specs.Contents.{walked, reached, headToBe, leadsTo, oldTailHead, headNode, abstractHead, chainAfter, contents}
 use Rattle.order.specs.Ghost.{Ghost}
+use Rattle.order.specs.Promises.{headOrOld}
 use Rattle.order.proofs.Shared.{sharedOf, no-link}
 use Rattle.order.proofs.Invariant.{TailAt, FrontAt, Linked, NotLinked, InvEnds, Inv}
 use Rattle.order.proofs.Ends.{chain-fits}
@@ -73,11 +74,6 @@ requestIn m a = announcementAt (m .announcements) a .request
 -- the machine's test whether the batch of announcement a is linked, while its old tail is unset
 abbrev pub tailLeadsToBatch : Machine → ℕ → Bool
 tailLeadsToBatch m a = leadsTo (cellAt (m .links) (m .ends .tail .node) .link) (requestIn m a .first)
-
--- the head, or the old head while an announcement is in it
-abbrev pub headOrOld : Machine → Head → Front
-headOrOld m (Plain f) = f
-headOrOld m (Announced a) = requestIn m a .«old_head»
 
 -- the way to a7, of a run whose new head is to stand at position q
 abbrev ArrivesAt : Ghost → ℕ → RunStep → Type 0

@@ -30,3 +30,5 @@ pub mod Entries
 pub mod PairingWalks
 pub mod PairingSteps
 pub mod PairingCounts
+pub mod Reached
+pub mod LinkedSoFar

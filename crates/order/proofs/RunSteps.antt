@@ -48,10 +48,10 @@ module _ (s : Shared) (g : Ghost) (i : Inv s g) (t : ℕ) (r : Row) (a : ℕ) (k
   runs-on : (y : Found) (x : RunStep) → KnowsRun s g a x → Fine s g t r (reads (memoryIn s) y) g (runningAt a k x)
   runs-on y x h = reads-only s g i t r y (runningAt a k x) (there, resumes, h)
 
-  own-batch : At (g .batches) a (batchOf g a)
+  pub own-batch : At (g .batches) a (batchOf g a)
   own-batch = let b = the-batch s g i t r a there in b .1 ∙ ap some (sym (at-is-getD (g .batches) a (b .0) noBatch (b .1)))
 
-  asks : Asks (announcementAt (s .announcements) a) (batchOf g a)
+  pub asks : Asks (announcementAt (s .announcements) a) (batchOf g a)
   asks = i .batches .asks a (batchOf g a) own-batch
 
   -- a3 is taken: the batch is not linked yet, so the announcement is in the head

@@ -24,6 +24,7 @@ use Rattle.call.specs.declared.entry.Entry.{Entry}
 use Rattle.call.specs.declared.answer.Verdict.{Verdict}
 use Rattle.call.specs.declared.answer.Verdict.the-variants.{Accepted, Refused}
 use Rattle.call.specs.Refusals.{inRange}
+use Rattle.call.proofs.Ranges.{in-range}
 use Rattle.schedule.specs.declared.read.SetUpReading.the-variants.{SetUp}
 use Rattle.schedule.specs.declared.read.EntryReading.the-variants as entry
 use Rattle.schedule.specs.Codes.{operands, entryOf, threadOf, secondOf}
@@ -110,19 +111,7 @@ entry-reads-back front e rest fits = reads-back-here _ (length front) e rest fit
 
 -- the numbers of a set-up in range are below 2^32
 in-range-fits : (threads nodes : ℕ) → inRange threads nodes ≡ Accepted → (threads < 2 ^ 32) × (nodes < 2 ^ 32)
-in-range-fits threads nodes ok =
-    let w = none-of (ltb threads 1) (ltb 8 threads) (ltb nodes 2) (ltb 512 nodes) ok in
-    (omega (arith, ltb-false 8 threads (w .0)), omega (arith, ltb-false 512 nodes (w .1)))
-  where
-    refused : {A : Type 0} {r : Refusal} → Refused r ≡ Accepted → A
-    refused e = absurd (let z : _≡_ {A = ℕ} 0 1 = cc in omega arith)
-
-    none-of : (a b c d : Bool) → cond (a || b || c || d) (Refused SetupOutOfRange) Accepted ≡ Accepted → (b ≡ false) × (d ≡ false)
-    none-of true b c d e = refused e
-    none-of false true c d e = refused e
-    none-of false false true d e = refused e
-    none-of false false false true e = refused e
-    none-of false false false false e = (refl, refl)
+in-range-fits threads nodes ok = (omega (arith, in-range threads nodes ok), omega (arith, in-range threads nodes ok))
 
 set-up-here : (s : List ℕ) (threads nodes : ℕ) (rest : List ℕ) → inRange threads nodes ≡ Accepted → s ≡ setUpBytes threads nodes ++ rest → setUpOf s ≡ SetUp threads nodes (length (setUpBytes threads nodes))
 unfolding setUpOf after

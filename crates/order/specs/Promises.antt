@@ -1,0 +1,170 @@
+-- What is promised of the queue after any list of entries from a fresh machine (a refused entry changes nothing):
+-- "the linked nodes form one chain from the first dummy, no loop, each node once; the tail is at the last node or one link step behind;
+-- no walk runs off the end."
+use Prim.Native.Nat.{ℕ, zero, suc, _%_, _<_, _≤_}
+use mathlib.Core.Path.{_≡_}
+use mathlib.Core.Bool.{cond}
+use mathlib.Core.List.{List, [], _∷_, _++_}
+use mathlib.Core.Option.{some}
+use mathlib.Core.Logic.{_⊎_}
+use lib.ListN.{length}
+use Rattle.chain.specs.Positions.{At, In, Once}
+use Rattle.chain.specs.Chain.{following}
+use Rattle.memory.specs.declared.Front.{Front}
+use Rattle.memory.specs.declared.Head.{Head}
+use Rattle.memory.specs.declared.Head.the-variants.{Plain, Announced}
+use Rattle.memory.specs.declared.Link.{Link}
+use Rattle.memory.specs.declared.Link.the-variants.{None, To}
+use Rattle.memory.specs.declared.Request.{Request}
+use Rattle.memory.specs.Memory.{Memory, cellAt, announcementAt}
+use Rattle.thread.specs.declared.Place.{Place}
+use Rattle.thread.specs.declared.Place.the-variants.{Idle, Enqueue, Dequeue, Batch, Dequeues, Running}
+use Rattle.thread.specs.declared.enqueue.EnqueueStep.{EnqueueStep}
+use Rattle.thread.specs.declared.enqueue.EnqueueStep.the-variants.{E1, E2, E3, E4, E5}
+use Rattle.thread.specs.declared.dequeues.DequeuesStep.{DequeuesStep}
+use Rattle.thread.specs.declared.dequeues.DequeuesStep.the-variants.{Q1, Q2, Q3}
+use Rattle.thread.specs.declared.running.RunStep.{RunStep}
+use Rattle.thread.specs.declared.running.RunStep.the-variants.{A1, A2, A3, A4, A5, A6, A7, A8}
+use Rattle.call.specs.declared.answer.Verdict.{Verdict}
+use Rattle.call.specs.declared.answer.Verdict.the-variants.{Accepted, Refused}
+use Rattle.call.specs.declared.entry.Entry.{Entry}
+use Rattle.call.specs.declared.entry.Entry.the-variants as entry
+use Rattle.call.specs.Refusals.{steppable}
+use Rattle.machine.specs.declared.Machine.{Machine}
+use Rattle.machine.specs.State.{rowAt, memoryOf}
+use Rattle.machine.specs.Steps.{stepOf, isMore}
+use Rattle.machine.specs.Contents.{abstractHead, chainAfter}
+use Rattle.machine.specs.Entries.{apply}
+use Rattle.order.specs.Links.{next}
+
+-- LINK STEPS. A link step is an e2 or an a3 that is taken, which it is where the link that it compares is none. It is told by the nodes that
+-- it links: e2 the node of its call, a3 the nodes of its batch, as many as the batch has enqueues, from the first along the links.
+abbrev pub ifTaken : Link → List ℕ → List (List ℕ)
+ifTaken None nodes = nodes ∷ []
+ifTaken (To x) nodes = []
+
+abbrev pub batchNodes : Memory → Request → List ℕ
+batchNodes m k = following (next (m .links)) (k .tally .enqueues) (some (k .first))
+
+abbrev pub enqueueLinks : Memory → ℕ → EnqueueStep → List (List ℕ)
+enqueueLinks m n E1 = []
+enqueueLinks m n (E2 t) = ifTaken (cellAt (m .links) (t .node) .link) (n ∷ [])
+enqueueLinks m n (E3 t) = []
+enqueueLinks m n (E4 t x) = []
+enqueueLinks m n (E5 t x) = []
+
+abbrev pub runLinks : Memory → ℕ → RunStep → List (List ℕ)
+runLinks m a A1 = []
+runLinks m a (A2 t) = []
+runLinks m a (A3 t) = ifTaken (cellAt (m .links) (t .node) .link) (batchNodes m (announcementAt (m .announcements) a .request))
+runLinks m a (A4 t) = []
+runLinks m a (A5 o) = []
+runLinks m a (A6 rise x left) = []
+runLinks m a (A7 rise x) = []
+runLinks m a (A8 t x) = []
+
+-- the link step, if it is one, of a thread that is at a place
+abbrev pub stepLinks : Memory → Place → List (List ℕ)
+stepLinks m Idle = []
+stepLinks m (Enqueue n x) = enqueueLinks m n x
+stepLinks m (Dequeue x) = []
+stepLinks m (Batch b x) = []
+stepLinks m (Dequeues x) = []
+stepLinks m (Running a x k) = runLinks m a x
+
+-- the link steps among the n steps of Run, which stops where its thread's call has ended
+unfoldable pub advanceLinks : ℕ → Machine → ℕ → List (List ℕ)
+advanceLinks zero m i = []
+advanceLinks (suc n) m i = stepLinks (memoryOf m) (rowAt m i .place) ++ cond (isMore (stepOf m i .answer)) (advanceLinks n (stepOf m i .machine) i) []
+
+abbrev pub whereSteppable : Verdict → List (List ℕ) → List (List ℕ)
+whereSteppable Accepted steps = steps
+whereSteppable (Refused r) steps = []
+
+unfoldable pub entryLinks : Machine → Entry → List (List ℕ)
+entryLinks m (entry.Enqueue t v) = []
+entryLinks m (entry.Dequeue t) = []
+entryLinks m (entry.FutureEnqueue t v) = []
+entryLinks m (entry.FutureDequeue t) = []
+entryLinks m (entry.Evaluate t f) = []
+entryLinks m (entry.Step t) = whereSteppable (steppable t (m .threads) (rowAt m (t % 8) .place)) (advanceLinks 1 m (t % 8))
+entryLinks m (entry.Run t n) = whereSteppable (steppable t (m .threads) (rowAt m (t % 8) .place)) (advanceLinks n m (t % 8))
+
+-- the link steps of a list of entries, in the order in which they were taken
+unfoldable pub linkSteps : Machine → List Entry → List (List ℕ)
+linkSteps m [] = []
+linkSteps m (e ∷ es) = entryLinks m e ++ linkSteps (apply m e .machine) es
+
+unfoldable pub together : List (List ℕ) → List ℕ
+together [] = []
+together (l ∷ steps) = l ++ together steps
+
+-- the linked nodes: the first dummy, and behind it those of the link steps
+abbrev pub linked : List (List ℕ) → List ℕ
+linked steps = 0 ∷ together steps
+
+-- THE PROMISES, of a machine m and the link steps taken so far.
+-- Following the links from node 0, however far one goes, visits exactly the linked nodes, each once, and ends at one whose link is none.
+pub record OneChain (m : Machine) (steps : List (List ℕ)) : Type 0 where
+  pub visited : (n : ℕ) → length (linked steps) ≤ n → following (next (m .links)) n (some 0) ≡ linked steps
+  pub once : Once (linked steps)
+  pub lastLink : (k n : ℕ) → At (linked steps) k n → length (linked steps) ≡ suc k → cellAt (m .links) n .link ≡ None
+
+-- n is the last of a list
+abbrev pub LastOf : List ℕ → ℕ → Type 0
+LastOf c n = (k : ℕ) × At c k n × (length c ≡ suc k)
+
+-- The tail is at the last node, or it is where it was the last before the last link step.
+pub record OneBehind (tail : ℕ) (steps : List (List ℕ)) : Type 0 where
+  pub before : List (List ℕ)
+  pub last : List ℕ
+  pub all : steps ≡ before ++ (last ∷ [])
+  pub there : LastOf (linked before) tail
+
+abbrev pub TailNear : Machine → List (List ℕ) → Type 0
+TailNear m steps = LastOf (linked steps) (m .ends .tail .node) ⊎ OneBehind (m .ends .tail .node) steps
+
+-- the head, or the old head while an announcement is in it
+abbrev pub headOrOld : Machine → Head → Front
+headOrOld m (Plain f) = f
+headOrOld m (Announced a) = announcementAt (m .announcements) a .request .«old_head»
+
+pub record HeadsLinked (m : Machine) (steps : List (List ℕ)) : Type 0 where
+  pub head : In (linked steps) (headOrOld m (m .ends .head) .node)
+  pub abstract : In (linked steps) (abstractHead m)
+
+-- Walks. The node that a6 or q2 reads the link of is linked; a6 never meets a missing link. (At q2 a missing link ends the walk.)
+abbrev pub RunReadsOn : Machine → List ℕ → RunStep → Type 0
+RunReadsOn m c A1 = Unit {0}
+RunReadsOn m c (A2 t) = Unit {0}
+RunReadsOn m c (A3 t) = Unit {0}
+RunReadsOn m c (A4 t) = Unit {0}
+RunReadsOn m c (A5 o) = Unit {0}
+RunReadsOn m c (A6 rise x left) = In c x × ((y : ℕ) × (cellAt (m .links) x .link ≡ To y))
+RunReadsOn m c (A7 rise x) = Unit {0}
+RunReadsOn m c (A8 t x) = Unit {0}
+
+abbrev pub DequeuesReadOn : List ℕ → DequeuesStep → Type 0
+DequeuesReadOn c Q1 = Unit {0}
+DequeuesReadOn c (Q2 w) = In c (w .at)
+DequeuesReadOn c (Q3 w) = Unit {0}
+
+abbrev pub ReadsOn : Machine → List ℕ → Place → Type 0
+ReadsOn m c Idle = Unit {0}
+ReadsOn m c (Enqueue n x) = Unit {0}
+ReadsOn m c (Dequeue x) = Unit {0}
+ReadsOn m c (Batch b x) = Unit {0}
+ReadsOn m c (Dequeues x) = DequeuesReadOn c x
+ReadsOn m c (Running a x k) = RunReadsOn m c x
+
+-- and the walk of the contents is over linked nodes, and ends by itself: it is cut off nowhere
+pub record WalksStayOn (m : Machine) (steps : List (List ℕ)) : Type 0 where
+  pub reads : (t : ℕ) → t < 8 → ReadsOn m (linked steps) (rowAt m t .place)
+  pub contents : (j n : ℕ) → At (chainAfter 512 (m .links) (abstractHead m)) j n → In (linked steps) n
+  pub notCut : length (chainAfter 512 (m .links) (abstractHead m)) < 512
+
+pub record Queue (m : Machine) (steps : List (List ℕ)) : Type 0 where
+  pub chain : OneChain m steps
+  pub tail : TailNear m steps
+  pub heads : HeadsLinked m steps
+  pub walks : WalksStayOn m steps
