@@ -32,3 +32,4 @@ pub mod PairingSteps
 pub mod PairingCounts
 pub mod Reached
 pub mod LinkedSoFar
+pub mod Promises

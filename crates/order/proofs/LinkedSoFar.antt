@@ -75,7 +75,7 @@ take-left zero a b h = refl
 take-left (suc j) [] b h = absurd (omega arith)
 take-left (suc j) (x ∷ a) b h = ap (λ (z : List _). x ∷ z) (take-left j a b (omega arith))
 
-one-more : (steps : List (List ℕ)) (l : List ℕ) → together (steps ++ (l ∷ [])) ≡ together steps ++ l
+pub one-more : (steps : List (List ℕ)) (l : List ℕ) → together (steps ++ (l ∷ [])) ≡ together steps ++ l
 unfolding together
 one-more steps l = together-append steps (l ∷ []) ∙ ap (λ (z : List ℕ). together steps ++ z) (append-nil l)
 
