@@ -1,5 +1,5 @@
 -- Every entry keeps the invariant: a refused one changes nothing, an accepted one starts or defers a call, or takes steps.
-use Prim.Native.Nat.{ℕ, zero, suc, _+_, _%_, _<_, _≤_}
+use Prim.Native.Nat.{ℕ, zero, suc, _+_, _%_, _<_}
 use mathlib.Core.Path.{_≡_, refl, sym, ap, _∙_, subst}
 use mathlib.Core.Bool.{Bool, true, false, not, cond}
 use mathlib.Core.List.{List, [], _∷_}
@@ -31,15 +31,15 @@ use Rattle.call.specs.declared.entry.Entry.{Entry}
 use Rattle.call.specs.declared.entry.Entry.the-variants as entry
 use Rattle.call.specs.declared.test.Needs.{Needs}
 use Rattle.call.specs.Next.{nextNode, nextFuture}
-use Rattle.call.specs.Refusals.{callable, steppable, foreign, lacking, callVerdict, enqueueNeeds, dequeueNeeds, futureEnqueueNeeds, futureDequeueNeeds, evaluateNeeds, some}
+use Rattle.call.specs.Refusals.{steppable, foreign, lacking, callVerdict, enqueueNeeds, dequeueNeeds, futureEnqueueNeeds, futureDequeueNeeds, evaluateNeeds, some}
 use Rattle.machine.specs.declared.Machine.{Machine}
 use Rattle.machine.specs.declared.Told.{Told}
 use Rattle.machine.specs.State.{rowAt, withRow, noFuture}
 use Rattle.machine.specs.HandOut.{handOutNode}
-use Rattle.machine.specs.Steps.{hop, stepOf, isMore, oneMore, advance}
+use Rattle.machine.specs.Steps.{stepOf, isMore, oneMore, advance}
 use Rattle.machine.specs.Entries.{decided, refusing, linkedBehind, deferEnqueue, deferDequeue, setOff, startEnqueue, startDequeue, evaluateWaiting, evaluateOwn, evaluateKnown, evaluate, enqueue as enqueueEntry, dequeue as dequeueEntry, futureEnqueue, futureDequeue, run, apply}
 use Rattle.order.specs.Ghost.{Ghost, pendingOf, owns, setOffGhost, deferEnqueueGhost, deferDequeueGhost, startEnqueueGhost, startDequeueGhost, whereAccepted, stepOfGhost, advanceGhost, evaluateOwnGhost, evaluateGhost, entryGhost}
-use Rattle.order.proofs.Shared.{Shared, sharedOf}
+use Rattle.order.proofs.Shared.{sharedOf}
 use Rattle.order.proofs.Knows.{Single, Tallied, Alone}
 use Rattle.order.proofs.TailMoves.{quiet, spared}
 use Rattle.order.proofs.HandingOutNodes.{nodeHandedOut, new-node-inv, new-node-grows, new-node-spares, new-node-single}
@@ -56,7 +56,7 @@ decided-keeps Accepted m x g g′ ok f = f refl
 decided-keeps (Refused r) m x g g′ ok f = ok
 
 -- a count that is not 0 is some
-is-some : (n : ℕ) → n ≢ 0 → some n ≡ true
+pub is-some : (n : ℕ) → n ≢ 0 → some n ≡ true
 is-some n ne = ap not (ne-eqb n 0 ne)
 
 no-calls : (cs : List (Call ℕ)) → length cs ≡ 0 → cs ≡ []
@@ -181,7 +181,7 @@ module _ (m : Machine) (g : Ghost) (ok : Ok m g) where
   unfolding run
   run-keeps t n = decided-keeps (steppable t (m .threads) (rowAt m (t % 8) .place)) m _ g _ ok (λ e. advance-keeps n m g ok (t % 8) (small m g ok t))
 
-  accepted : (t : ℕ) (n : Needs) → callVerdict t (m .threads) (rowAt m (t % 8)) (m .used) (m .nodes) n ≡ Accepted
+  pub accepted : (t : ℕ) (n : Needs) → callVerdict t (m .threads) (rowAt m (t % 8)) (m .used) (m .nodes) n ≡ Accepted
       → (rowAt m (t % 8) .place ≡ Idle) × Left n (m .used) (m .nodes) (rowAt m (t % 8) .count)
   accepted t n e = call-accepted t (m .threads) (rowAt m (t % 8)) (m .used) (m .nodes) n e
 

@@ -30,6 +30,8 @@ pub mod Entries
 pub mod PairingWalks
 pub mod PairingSteps
 pub mod PairingCounts
+pub mod Flags
+pub mod FlagsKept
 pub mod Reached
 pub mod LinkedSoFar
 pub mod Promises

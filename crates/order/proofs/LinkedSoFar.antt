@@ -5,14 +5,12 @@ use mathlib.Core.Path.{_≡_, refl, sym, ap, _∙_, subst}
 use mathlib.Core.Bool.{Bool, true, false, cond}
 use mathlib.Core.List.{List, [], _∷_, _++_, append-assoc, append-nil}
 use mathlib.Core.Option.{Option, none, some}
-use mathlib.Core.Logic.{_⊎_, inl, inr}
 use native.Mathlib.Omega.{arith}
 use native.Mathlib.Decide.{decLe}
 use lib.Dec.{eqb}
 use lib.ListN.{length, getD, take, length-append}
 use lib.Seq.{take-all}
 use Rattle.chain.specs.Positions.{at, At, In}
-use Rattle.chain.specs.Chain.{following}
 use Rattle.chain.proofs.Positions.{within, stays, at-the-end, length-one-more}
 use Rattle.chain.proofs.Following.{meets-the-rest, none-is-the-last}
 use Rattle.memory.specs.declared.Tail.{Tail}
@@ -20,18 +18,15 @@ use Rattle.memory.specs.declared.Head.the-variants.{Plain}
 use Rattle.memory.specs.declared.Link.{Link}
 use Rattle.memory.specs.declared.Link.the-variants.{None, To}
 use Rattle.memory.specs.Ends.{sameHead}
-use Rattle.memory.specs.Memory.{Memory, cellAt, announcementAt}
+use Rattle.memory.specs.Memory.{cellAt, announcementAt}
 use Rattle.thread.specs.declared.Place.{Place}
 use Rattle.thread.specs.declared.Place.the-variants as place
 use Rattle.thread.specs.declared.Place.the-variants.{Idle, Enqueue, Dequeue, Dequeues, Running}
 use Rattle.thread.specs.declared.Resume.{Resume}
 use Rattle.thread.specs.declared.After.{After}
 use Rattle.thread.specs.declared.After.the-variants as afterwards
-use Rattle.thread.specs.declared.enqueue.EnqueueStep.{EnqueueStep}
 use Rattle.thread.specs.declared.enqueue.EnqueueStep.the-variants.{E1, E2, E3, E4, E5}
-use Rattle.thread.specs.declared.batch.BatchStep.{BatchStep}
 use Rattle.thread.specs.declared.batch.BatchStep.the-variants.{B1, B2}
-use Rattle.thread.specs.declared.running.RunStep.{RunStep}
 use Rattle.thread.specs.declared.running.RunStep.the-variants.{A1, A2, A3, A4, A5, A6, A7, A8}
 use Rattle.call.specs.declared.test.Needs.{Needs}
 use Rattle.call.specs.declared.answer.Future.{Future}
@@ -50,8 +45,7 @@ use Rattle.machine.specs.Entries.{deferEnqueue, deferDequeue, apply}
 use Rattle.order.specs.Ghost.{Ghost, batchOf, joins, installs, owns, ifFree, stepGhost, endGhost, setOffGhost, deferEnqueueGhost, deferDequeueGhost, startEnqueueGhost, startDequeueGhost, whereAccepted, stepOfGhost, advanceGhost, evaluateOwnGhost, evaluateGhost, callGhost, entryGhost, freshGhost}
 use Rattle.order.specs.Reached.{after, ghostAfter}
 use Rattle.order.specs.Promises.{ifTaken, batchNodes, stepLinks, advanceLinks, whereSteppable, entryLinks, linkSteps, together, linked}
-use Rattle.order.proofs.Shared.{Shared, sharedOf, next, led}
-use Rattle.order.proofs.Invariant.{Inv}
+use Rattle.order.proofs.Shared.{sharedOf, next, led}
 use Rattle.order.proofs.Knows.{TailRead, KnowsRun, KnowsResume, KnowsAt}
 use Rattle.order.proofs.RunReads.{not-linked-yet}
 use Rattle.order.proofs.RunSteps.{own-batch, asks}
@@ -133,7 +127,7 @@ module _ (m : Machine) (g : Ghost) (ok : Ok m g) (i : ℕ) (lt : i < 8) (steps :
       let beside = ok .inv .batches .beside a (batchOf g a) there (not-linked-yet (sharedOf m) g (ok .inv) i r a there t knows free) own in
       sym (meets-the-rest (beside .chain) _ 0 _ (asked .firstIs) (omega (arith, asked .many)))
 
-  place-tells : (r : Row) (p : Place) → KnowsAt (sharedOf m) g i r p → Tells (stepGhost (memoryOf m) g p) (steps ++ stepLinks (memoryOf m) p)
+  pub place-tells : (r : Row) (p : Place) → KnowsAt (sharedOf m) g i r p → Tells (stepGhost (memoryOf m) g p) (steps ++ stepLinks (memoryOf m) p)
   place-tells r Idle k = nothing-more steps h
   place-tells r (Enqueue n E1) k = nothing-more steps h
   place-tells r (Enqueue n (E2 t)) k = taken-tells t (k .0 .1) (n ∷ []) (n ∷ []) none _ refl (λ e. refl)

@@ -42,7 +42,7 @@ abbrev pub Flagged : List ℕ → List Future → List (Call ℕ) → Type 0
 Flagged pending fs cs = FlaggedFrom 0 pending fs cs
 
 -- a future that becomes done keeps its flag
-flags-stay : (fs : List Future) (i j : ℕ) (o : Outcome) → getD (set fs i (done (getD fs i noFuture) o)) j noFuture .enqueue ≡ getD fs j noFuture .enqueue
+pub flags-stay : (fs : List Future) (i j : ℕ) (o : Outcome) → getD (set fs i (done (getD fs i noFuture) o)) j noFuture .enqueue ≡ getD fs j noFuture .enqueue
 flags-stay [] i j o = refl
 flags-stay (x ∷ fs) zero zero o = refl
 flags-stay (x ∷ fs) zero (suc j) o = refl

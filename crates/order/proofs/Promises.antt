@@ -1,9 +1,9 @@
 -- The promises hold after any list of entries from a fresh machine.
-use Prim.Native.Nat.{ℕ, zero, suc, _+_, _<_, _≤_}
+use Prim.Native.Nat.{ℕ, suc, _+_, _%_, _<_}
 use mathlib.Core.Path.{_≡_, refl, sym, ap, _∙_, subst}
 use mathlib.Core.List.{List, [], _∷_, _++_}
 use mathlib.Core.Option.{some}
-use mathlib.Core.Logic.{_⊎_, inl, inr, _≢_}
+use mathlib.Core.Logic.{inl, inr, _≢_}
 use native.Mathlib.Omega.{arith}
 use native.Mathlib.Decide.{ℕ-discrete}
 use lib.ListN.{length, getD, take}
@@ -11,7 +11,7 @@ use lib.Seq.{take-all, take-suc}
 use Rattle.chain.specs.Positions.{at, At, In}
 use Rattle.chain.specs.Chain.{Chain}
 use Rattle.chain.proofs.Positions.{some-injective, within, element, at-left}
-use Rattle.chain.proofs.Following.{meets-the-rest, last-has-none}
+use Rattle.chain.proofs.Following.{meets-the-rest}
 use Rattle.memory.specs.declared.Link.the-variants.{To}
 use Rattle.memory.specs.Memory.{cellAt}
 use Rattle.thread.specs.declared.Place.{Place}
@@ -24,22 +24,26 @@ use Rattle.call.specs.declared.entry.Entry.{Entry}
 use Rattle.call.specs.Refusals.{inRange}
 use Rattle.call.proofs.Ranges.{in-range}
 use Rattle.machine.specs.declared.Machine.{Machine}
-use Rattle.machine.specs.State.{freshMachine, rowAt}
+use Rattle.machine.specs.State.{freshMachine, rowAt, memoryOf, noFuture}
+use Rattle.machine.specs.Steps.{hop}
 use Rattle.order.specs.Links.{next}
-use Rattle.order.specs.Ghost.{Ghost, freshGhost}
-use Rattle.order.specs.Reached.{after, ghostAfter}
-use Rattle.order.specs.Promises.{linkSteps, together, linked, OneChain, LastOf, OneBehind, TailNear, HeadsLinked, ReadsOn, WalksStayOn, Queue}
-use Rattle.order.proofs.Shared.{sharedOf, no-link}
-use Rattle.order.proofs.Invariant.{Inv}
+use Rattle.order.specs.Ghost.{Ghost, pendingOf, freshGhost}
+use Rattle.order.specs.Reached.{after}
+use Rattle.order.specs.PairingReads.{AllStayOn, turnsAfter}
+use Rattle.order.specs.Promises.{stepLinks, linkSteps, together, linked, OneChain, LastOf, OneBehind, TailNear, HeadsLinked, ReadsOn, WalksStayOn, Queue}
+use Rattle.order.proofs.Shared.{sharedOf}
 use Rattle.order.proofs.Knows.{KnowsAt, KnowsRun}
 use Rattle.order.proofs.RunReads.{goal-within}
 use Rattle.order.proofs.Steps.{Ok}
 use Rattle.order.proofs.ContentsWalk.{link-leads-on}
 use Rattle.order.proofs.AbstractHead.{head-or-old-head-at, abstract-head-at, each-met-is-in-the-chain, met-fewer-than-followed, last-link-is-none}
-use Rattle.order.proofs.Reached.{fresh-ok, reached-ok}
-use Rattle.order.proofs.LinkedSoFar.{Tells, one-more, after-tells, fresh-tells}
+use Rattle.order.proofs.PairingCounts.{Flagged, flagged-pairing-stays-on}
+use Rattle.order.proofs.Flags.{Flags}
+use Rattle.order.proofs.FlagsKept.{after-flags, fresh-flags}
+use Rattle.order.proofs.Reached.{fresh-ok, after-ok}
+use Rattle.order.proofs.LinkedSoFar.{Tells, one-more, place-tells, after-tells, fresh-tells}
 
-module _ (m : Machine) (g : Ghost) (ok : Ok m g) (steps : List (List ℕ)) (h : Tells g steps) where
+module _ (m : Machine) (g : Ghost) (ok : Ok m g) (steps : List (List ℕ)) (h : Tells g steps) (flags : Flags m g) where
   -- a node of the chain beside the machine is a linked node
   is-linked : (k n : ℕ) → At (g .chain) k n → At (linked steps) k n
   is-linked k n p = subst (λ (c : List ℕ). At c k n) (h .chain) p
@@ -121,9 +125,23 @@ module _ (m : Machine) (g : Ghost) (ok : Ok m g) (steps : List (List ℕ)) (h : 
   reads-on t r (Running a (A7 rise x) k) w = tt
   reads-on t r (Running a (A8 l x) k) w = tt
 
+  -- the futures of the pending calls are flagged as the calls, of which there are at most 32
+  flagged-here : (t : ℕ) → t < 8 → Flagged (rowAt m t .pending) (m .futures) (pendingOf g t)
+  flagged-here t lt j c p =
+      let place : (0 + j) % 32 ≡ j = omega (arith, within (pendingOf g t) j p, ok .knows t lt .tallied .few) in
+      ap (λ (k : ℕ). getD (m .futures) (getD (rowAt m t .pending) k 0 % 512) noFuture .enqueue) place ∙ flags .each t lt .flagged j c p
+
+  pairing-stays : (t : ℕ) → t < 8
+      → AllStayOn (hop m t .machine .links) (linked (steps ++ stepLinks (memoryOf m) (rowAt m t .place))) (turnsAfter (hop m t .machine) t (hop m t .after))
+  pairing-stays t lt =
+      subst (λ (c : List ℕ). AllStayOn (hop m t .machine .links) c (turnsAfter (hop m t .machine) t (hop m t .after)))
+      (place-tells m g ok t lt steps h (rowAt m t) (rowAt m t .place) (ok .knows t lt .place) .chain)
+      (flagged-pairing-stays-on m g ok t lt (flagged-here t lt))
+
   walks-stay-on : WalksStayOn m steps
   walks-stay-on = record {
     reads = λ t lt. reads-on t (rowAt m t) (rowAt m t .place) (ok .knows t lt .place);
+    pairing = pairing-stays;
     contents = λ j n p. (_, is-linked _ _ (each-met-is-in-the-chain m g (ok .inv) j n p));
     notCut = met-fewer-than-followed m g (ok .inv);
   }
@@ -134,4 +152,5 @@ module _ (m : Machine) (g : Ghost) (ok : Ok m g) (steps : List (List ℕ)) (h : 
 pub the-queue-is-a-queue : (threads nodes : ℕ) → inRange threads nodes ≡ Accepted → (es : List Entry)
     → Queue (after (freshMachine threads nodes) es) (linkSteps (freshMachine threads nodes) es)
 the-queue-is-a-queue threads nodes e es =
-    queue _ _ (reached-ok threads nodes e es) _ (after-tells es (freshMachine threads nodes) freshGhost (fresh-ok threads nodes (in-range threads nodes e .1)) [] fresh-tells)
+    let fresh = fresh-ok threads nodes (in-range threads nodes e .1) in
+    queue _ _ (after-ok es _ _ fresh) _ (after-tells es (freshMachine threads nodes) freshGhost fresh [] fresh-tells) (after-flags es _ _ fresh (fresh-flags threads nodes))

@@ -1,29 +1,19 @@
 -- From a fresh machine, over any list of entries: the invariant holds at the start, and every entry keeps it.
-use Prim.Native.Nat.{ℕ, zero, suc, _+_, _<_, _≤_, _%_}
+use Prim.Native.Nat.{ℕ, zero, suc, _<_, _≤_, _%_}
 use mathlib.Core.Path.{_≡_, refl, sym, ap, _∙_, subst}
-use mathlib.Core.Bool.{Bool, true, false, cond, _||_}
 use mathlib.Core.List.{List, [], _∷_}
 use mathlib.Core.Option.{none, some}
-use mathlib.Core.Logic.{inl, inr}
 use native.Mathlib.Omega.{arith}
-use lib.Dec.{ltb}
 use lib.ListN.{length, getD, replicate, length-replicate, getD-replicate}
-use borrow.Author.Tests.{ltb-false}
-use Rattle.chain.specs.Positions.{at, At, In}
+use Rattle.chain.specs.Positions.{at, At}
 use Rattle.chain.proofs.Positions.{none-is-not-some, some-injective, within, past-the-end, the-only-one}
 use Rattle.tally.specs.Fifo.{Call}
 use Rattle.tally.specs.Tally.{tallyOf}
 use Rattle.memory.specs.declared.Cell.{Cell}
 use Rattle.memory.specs.declared.Front.{Front}
-use Rattle.memory.specs.declared.Head.the-variants.{Plain, Announced}
-use Rattle.memory.specs.declared.Announcement.{Announcement}
-use Rattle.memory.specs.Memory.{noCell, noAnnouncement, noFront, announcementAt}
-use Rattle.row.specs.declared.Row.{Row}
+use Rattle.memory.specs.Memory.{noCell, noAnnouncement}
 use Rattle.row.specs.Row.{freshRow, noRow}
-use Rattle.call.specs.declared.answer.Verdict.the-variants.{Accepted, Refused}
 use Rattle.call.specs.declared.entry.Entry.{Entry}
-use Rattle.call.specs.Refusals.{inRange}
-use Rattle.call.proofs.Ranges.{in-range}
 use Rattle.machine.specs.declared.Machine.{Machine}
 use Rattle.machine.specs.State.{freshMachine, rowAt}
 use Rattle.machine.specs.Entries.{apply}
@@ -120,7 +110,3 @@ pub after-ok : (es : List Entry) (m : Machine) (g : Ghost) → Ok m g → Ok (af
 unfolding after ghostAfter
 after-ok [] m g ok = ok
 after-ok (e ∷ es) m g ok = after-ok es (apply m e .machine) (entryGhost m g e) (entry-keeps m g ok e)
-
-pub reached-ok : (threads nodes : ℕ) → inRange threads nodes ≡ Accepted → (es : List Entry)
-    → Ok (after (freshMachine threads nodes) es) (ghostAfter (freshMachine threads nodes) freshGhost es)
-reached-ok threads nodes e es = after-ok es (freshMachine threads nodes) freshGhost (fresh-ok threads nodes (in-range threads nodes e .1))

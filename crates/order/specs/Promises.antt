@@ -32,10 +32,11 @@ use Rattle.call.specs.declared.entry.Entry.the-variants as entry
 use Rattle.call.specs.Refusals.{steppable}
 use Rattle.machine.specs.declared.Machine.{Machine}
 use Rattle.machine.specs.State.{rowAt, memoryOf}
-use Rattle.machine.specs.Steps.{stepOf, isMore}
+use Rattle.machine.specs.Steps.{hop, stepOf, isMore}
 use Rattle.machine.specs.Contents.{abstractHead, chainAfter}
 use Rattle.machine.specs.Entries.{apply}
 use Rattle.order.specs.Links.{next}
+use Rattle.order.specs.PairingReads.{AllStayOn, turnsAfter}
 
 -- LINK STEPS. A link step is an e2 or an a3 that is taken, which it is where the link that it compares is none. It is told by the nodes that
 -- it links: e2 the node of its call, a3 the nodes of its batch, as many as the batch has enqueues, from the first along the links.
@@ -157,9 +158,12 @@ ReadsOn m c (Batch b x) = Unit {0}
 ReadsOn m c (Dequeues x) = DequeuesReadOn c x
 ReadsOn m c (Running a x k) = RunReadsOn m c x
 
--- and the walk of the contents is over linked nodes, and ends by itself: it is cut off nowhere
+-- Whatever step is next, the turns of the pairing at its end stay on the linked nodes, with those of the step itself (PairingReads.antt says
+-- what a turn reads, and that it goes on where a link is there). The walk of the contents is over linked nodes and ends by itself.
 pub record WalksStayOn (m : Machine) (steps : List (List ℕ)) : Type 0 where
   pub reads : (t : ℕ) → t < 8 → ReadsOn m (linked steps) (rowAt m t .place)
+  pub pairing : (t : ℕ) → t < 8
+      → AllStayOn (hop m t .machine .links) (linked (steps ++ stepLinks (memoryOf m) (rowAt m t .place))) (turnsAfter (hop m t .machine) t (hop m t .after))
   pub contents : (j n : ℕ) → At (chainAfter 512 (m .links) (abstractHead m)) j n → In (linked steps) n
   pub notCut : length (chainAfter 512 (m .links) (abstractHead m)) < 512
 

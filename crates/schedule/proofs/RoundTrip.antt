@@ -2,16 +2,12 @@
 -- Each number reads back where it stands, and the place behind it is where the next number was written.
 use Prim.Native.Nat.{ℕ, zero, suc, _+_, _-_, _^_, _<_, _≤_}
 use mathlib.Core.Path.{_≡_, refl, sym, ap, ap₂, _∙_}
-use mathlib.Core.Bool.{Bool, true, false, cond, _||_}
 use mathlib.Core.List.{List, [], _∷_, _++_, append-assoc}
 use native.Mathlib.Omega.{arith}
 use native.Mathlib.Decide.{ℕ-discrete, decLe}
-use lib.Dec.{ltb}
 use lib.ListN.{length, drop, length-append, length-drop}
 use lib.Seq.{drop-append-seam, drop-drop}
-use borrow.Author.Tests.{lt-leb, le-leb, ltb-false, ne-eqb}
-use Rattle.refusal.specs.declared.Refusal.{Refusal}
-use Rattle.refusal.specs.declared.Refusal.the-variants.{SetupOutOfRange}
+use borrow.Author.Tests.{lt-leb, le-leb, ne-eqb}
 use Rattle.numbers.specs.declared.Reading.the-variants.{Number}
 use Rattle.numbers.specs.Read.{number, numberAt}
 use Rattle.numbers.specs.Write.{groupsOf}

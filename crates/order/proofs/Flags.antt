@@ -1,0 +1,160 @@
+-- Each pending call of a thread has a future that was handed out for it and is flagged as the call is, an enqueue or a dequeue. Futures are
+-- handed out in number order and paying one leaves its flag, so what other threads do leaves the flags of a thread's pending calls as they are.
+use Prim.Native.Nat.{ℕ, zero, suc, _+_, _%_, _<_, _≤_}
+use mathlib.Core.Path.{_≡_, refl, sym, ap, _∙_, subst}
+use mathlib.Core.Bool.{Bool}
+use mathlib.Core.List.{List, [], _∷_, _++_}
+use mathlib.Core.Logic.{⊎-elim, _≢_}
+use native.Mathlib.Omega.{arith}
+use native.Mathlib.Decide.{ℕ-discrete}
+use lib.ListN.{length, getD, set, length-set}
+use lib.Seq.{getD-set-same, getD-set-other}
+use Rattle.chain.specs.Positions.{At}
+use Rattle.chain.proofs.Positions.{within, there-or-at-the-end}
+use Rattle.tally.specs.Fifo.{Call, enqueue}
+use Rattle.tally.specs.Tally.{up}
+use Rattle.memory.specs.declared.Cell.{Cell}
+use Rattle.row.specs.declared.Row.{Row}
+use Rattle.row.specs.Row.{noRow}
+use Rattle.call.specs.declared.answer.Item.{Item}
+use Rattle.call.specs.declared.answer.Future.{Future}
+use Rattle.call.specs.declared.pairing.Cursor.{Cursor}
+use Rattle.call.specs.Next.{nextFuture}
+use Rattle.machine.specs.declared.Machine.{Machine}
+use Rattle.machine.specs.State.{rowAt, noFuture}
+use Rattle.machine.specs.Pairing.{pairFrom}
+use Rattle.order.specs.Ghost.{Ghost, pendingOf}
+use Rattle.order.proofs.Steps.{Ok}
+use Rattle.order.proofs.PairingCounts.{isEnqueue, flags-stay}
+
+pub record FlagsOf (fs : List Future) (used : ℕ) (pending : List ℕ) (cs : List (Call ℕ)) : Type 0 where
+  pub places : length pending ≡ 32
+  pub handedOut : (j : ℕ) (c : Call ℕ) → At cs j c → getD pending j 0 < used
+  pub flagged : (j : ℕ) (c : Call ℕ) → At cs j c → getD fs (getD pending j 0 % 512) noFuture .enqueue ≡ isEnqueue c
+
+pub record Flags (m : Machine) (g : Ghost) : Type 0 where
+  pub each : (t : ℕ) → t < 8 → FlagsOf (m .futures) (m .used .futures) (rowAt m t .pending) (pendingOf g t)
+  pub futures : length (m .futures) ≡ 512
+  pub room : m .used .futures ≤ 512
+
+-- futures that were handed out keep their flags
+pub record Carries (fs : List Future) (used : ℕ) (fs′ : List Future) (used′ : ℕ) : Type 0 where
+  pub more : used ≤ used′
+  pub same : (k : ℕ) → k < used → getD fs′ (k % 512) noFuture .enqueue ≡ getD fs (k % 512) noFuture .enqueue
+  pub long : length fs′ ≡ length fs
+  pub room : used ≤ 512 → used′ ≤ 512
+
+nothing-handed-out : {fs : List Future} {used : ℕ} → Carries fs used fs used
+nothing-handed-out = record { more = omega arith; same = λ k h. refl; long = refl; room = λ h. h }
+
+carried : {fs fs′ : List Future} {used used′ : ℕ} {pending : List ℕ} {cs : List (Call ℕ)} → Carries fs used fs′ used′ → FlagsOf fs used pending cs → FlagsOf fs′ used′ pending cs
+carried c h = record {
+  places = h .places;
+  handedOut = λ j x p. omega (arith, h .handedOut j x p, c .more);
+  flagged = λ j x p. c .same _ (h .handedOut j x p) ∙ h .flagged j x p;
+}
+
+-- one row, and the pending calls of its thread, change
+pub put-flags : (m : Machine) (g : Ghost) → Flags m g → length (m .rows) ≡ 8 → (i : ℕ) → i < 8 → (m′ : Machine) (g′ : Ghost) (row : Row) → m′ .rows ≡ set (m .rows) i row
+    → ((u : ℕ) → u ≢ i → pendingOf g′ u ≡ pendingOf g u) → Carries (m .futures) (m .used .futures) (m′ .futures) (m′ .used .futures)
+    → FlagsOf (m′ .futures) (m′ .used .futures) (row .pending) (pendingOf g′ i) → Flags m′ g′
+put-flags m g h rows i lt m′ g′ row put others carries mine = record {
+  each = λ t lt′. elim (ℕ-discrete t i) [ yes e ↦ subst (λ (u : ℕ). Here u) (sym e) here | no ne ↦ elsewhere t lt′ ne ];
+  futures = carries .long ∙ h .futures;
+  room = carries .room (h .room);
+}
+  where
+    Here : ℕ → Type 0
+    Here t = FlagsOf (m′ .futures) (m′ .used .futures) (rowAt m′ t .pending) (pendingOf g′ t)
+
+    here : Here i
+    here =
+        let is : rowAt m′ i ≡ row = ap (λ (l : List Row). getD l i noRow) put ∙ getD-set-same (m .rows) i row noRow (omega (arith, rows)) in
+        subst (λ (r : Row). FlagsOf (m′ .futures) (m′ .used .futures) (r .pending) (pendingOf g′ i)) (sym is) mine
+
+    elsewhere : (t : ℕ) → t < 8 → t ≢ i → Here t
+    elsewhere t lt′ ne =
+        let is : rowAt m′ t ≡ rowAt m t = ap (λ (l : List Row). getD l t noRow) put ∙ getD-set-other (m .rows) i t row noRow ne in
+        subst (λ (r : Row). FlagsOf (m′ .futures) (m′ .used .futures) (r .pending) (pendingOf g′ t)) (sym is)
+        (subst (FlagsOf (m′ .futures) (m′ .used .futures) (rowAt m t .pending)) (sym (others t ne)) (carried carries (h .each t lt′)))
+
+-- one more future is handed out, and one more call is pending
+one-more-future : (fs : List Future) (used : ℕ) (x : Future) → used < 512 → Carries fs used (set fs (used % 512) x) (up used)
+one-more-future fs used x left = record {
+  more = omega arith;
+  same = λ k h. ap (λ (f : Future). f .enqueue) (getD-set-other fs (used % 512) (k % 512) x noFuture (λ e. omega arith));
+  long = length-set fs (used % 512) x;
+  room = λ h. omega arith;
+}
+
+one-more-flag : (fs : List Future) (used : ℕ) (pending : List ℕ) (cs : List (Call ℕ)) → FlagsOf fs used pending cs → length fs ≡ 512 → used < 512
+    → (count : ℕ) → count ≡ length cs → count < 32 → (c : Call ℕ) (x : Future) → x .enqueue ≡ isEnqueue c
+    → FlagsOf (set fs (used % 512) x) (up used) (set pending (count % 32) (used % 512)) (cs ++ (c ∷ []))
+one-more-flag fs used pending cs h long left count counted few c x is = record {
+  places = length-set pending (count % 32) (used % 512) ∙ h .places;
+  handedOut = λ j y p. ⊎-elim (λ w. omega (arith, earlier j y w, h .handedOut j y w)) (λ w. omega (arith, new j (w .0))) (there-or-at-the-end cs c j p);
+  flagged = λ j y p. ⊎-elim
+      (λ w. ap flag (earlier j y w) ∙ one-more-future fs used x left .same (getD pending j 0) (h .handedOut j y w) ∙ h .flagged j y w)
+      (λ w. ap flag (new j (w .0)) ∙ ap (λ (k : ℕ). getD after k noFuture .enqueue) twice ∙ ap (λ (f : Future). f .enqueue) (getD-set-same fs (used % 512) x noFuture (omega (arith, long))) ∙ is ∙ sym (ap isEnqueue (w .1)))
+      (there-or-at-the-end cs c j p);
+}
+  where
+    after : List Future
+    after = set fs (used % 512) x
+
+    flag : ℕ → Bool
+    flag k = getD (set fs (used % 512) x) (k % 512) noFuture .enqueue
+
+    twice : used % 512 % 512 ≡ used % 512
+    twice = omega arith
+
+    earlier : (j : ℕ) (y : Call ℕ) → At cs j y → getD (set pending (count % 32) (used % 512)) j 0 ≡ getD pending j 0
+    earlier j y p = getD-set-other pending (count % 32) j (used % 512) 0 (λ e. omega (arith, within cs j p, counted))
+
+    new : (j : ℕ) → j ≡ length cs → getD (set pending (count % 32) (used % 512)) j 0 ≡ used % 512
+    new j e =
+        ap (λ (k : ℕ). getD (set pending (count % 32) (used % 512)) k 0) (let q : j ≡ count % 32 = omega (arith, e, counted) in q)
+        ∙ getD-set-same pending (count % 32) (used % 512) 0 (omega (arith, h .places))
+
+-- pairing keeps the flags
+pub pair-keeps : (n : ℕ) (links : List Cell) (items : List Item) (last : ℕ) (pending : List ℕ) (k : ℕ) (fs : List Future) (c : Cursor)
+    → ((j : ℕ) → getD (pairFrom n links items last pending k fs c) j noFuture .enqueue ≡ getD fs j noFuture .enqueue) × (length (pairFrom n links items last pending k fs c) ≡ length fs)
+unfolding pairFrom
+pair-keeps zero links items last pending k fs c = ((λ j. refl), refl)
+pair-keeps (suc n) links items last pending k fs c =
+    let rest = pair-keeps n links items last pending (k + 1) _ _ in
+    ((λ j. rest .0 j ∙ flags-stay fs _ j _), rest .1 ∙ length-set fs _ _)
+
+module _ (m : Machine) (g : Ghost) (ok : Ok m g) (h : Flags m g) (i : ℕ) (lt : i < 8) where
+  -- the row's place changes, nothing is deferred
+  pub row-moves : (m′ : Machine) (g′ : Ghost) (row : Row) → m′ .rows ≡ set (m .rows) i row → row .pending ≡ rowAt m i .pending → m′ .futures ≡ m .futures → m′ .used .futures ≡ m .used .futures
+      → g′ .pending ≡ g .pending → Flags m′ g′
+  row-moves m′ g′ row put same fs used calls =
+      put-flags m g h (ok .rows) i lt m′ g′ row put (λ u ne. ap (λ (l : List (List (Call ℕ))). getD l u []) calls) kept
+      (subst (λ (l : List ℕ). FlagsOf (m′ .futures) (m′ .used .futures) l (pendingOf g′ i)) (sym same)
+      (subst (FlagsOf (m′ .futures) (m′ .used .futures) (rowAt m i .pending)) (sym (ap (λ (l : List (List (Call ℕ))). getD l i []) calls)) (carried kept (h .each i lt))))
+    where
+      kept : Carries (m .futures) (m .used .futures) (m′ .futures) (m′ .used .futures)
+      kept = record {
+        more = omega (arith, used);
+        same = λ k p. ap (λ (l : List Future). getD l (k % 512) noFuture .enqueue) fs;
+        long = ap length fs;
+        room = λ p. omega (arith, used);
+      }
+
+  -- a call is deferred
+  pub deferred : (c : Call ℕ) (x : Future) → x .enqueue ≡ isEnqueue c → m .used .futures < 512 → rowAt m i .count < 32 → (m′ : Machine) (g′ : Ghost) (row : Row)
+      → m′ .rows ≡ set (m .rows) i row → row .pending ≡ set (rowAt m i .pending) (rowAt m i .count % 32) (nextFuture (m .used))
+      → m′ .futures ≡ set (m .futures) (nextFuture (m .used)) x → m′ .used .futures ≡ up (m .used .futures) → g′ .pending ≡ set (g .pending) i (pendingOf g i ++ (c ∷ [])) → Flags m′ g′
+  deferred c x is left few m′ g′ row put pending fs used calls =
+      put-flags m g h (ok .rows) i lt m′ g′ row put (λ u ne. ap (λ (l : List (List (Call ℕ))). getD l u []) calls ∙ getD-set-other (g .pending) i u _ [] ne)
+      (subst (λ (l : List Future). Carries (m .futures) (m .used .futures) l (m′ .used .futures)) (sym fs)
+      (subst (Carries (m .futures) (m .used .futures) (set (m .futures) (nextFuture (m .used)) x)) (sym used) (one-more-future (m .futures) (m .used .futures) x left)))
+      (subst (λ (l : List Future). FlagsOf l (m′ .used .futures) (row .pending) (pendingOf g′ i)) (sym fs)
+      (subst (λ (u : ℕ). FlagsOf (set (m .futures) (nextFuture (m .used)) x) u (row .pending) (pendingOf g′ i)) (sym used)
+      (subst (λ (l : List ℕ). FlagsOf (set (m .futures) (nextFuture (m .used)) x) (up (m .used .futures)) l (pendingOf g′ i)) (sym pending)
+      (subst (FlagsOf (set (m .futures) (nextFuture (m .used)) x) (up (m .used .futures)) _) (sym cs-is)
+      (one-more-flag (m .futures) (m .used .futures) (rowAt m i .pending) (pendingOf g i) (h .each i lt) (h .futures) left (rowAt m i .count) (ok .knows i lt .tallied .count) few c x is)))))
+    where
+      cs-is : pendingOf g′ i ≡ pendingOf g i ++ (c ∷ [])
+      cs-is = ap (λ (l : List (List (Call ℕ))). getD l i []) calls ∙ getD-set-same (g .pending) i _ [] (omega (arith, ok .pendings))
