@@ -39,7 +39,7 @@ use Rattle.machine.specs.declared.Machine.{Machine}
 use Rattle.machine.specs.State.{noItem}
 use Rattle.machine.specs.Contents.{walked, reached, headToBe, leadsTo, oldTailHead, headNode, abstractHead, chainAfter, contents}
 use Rattle.order.specs.Ghost.{Ghost}
-use Rattle.order.specs.Promises.{headOrOld}
+use Rattle.order.specs.Promises.{requestIn, headOrOld, EveryLinkLeadsOn}
 use Rattle.order.proofs.Shared.{sharedOf, no-link}
 use Rattle.order.proofs.Invariant.{TailAt, FrontAt, Linked, NotLinked, InvEnds, Inv}
 use Rattle.order.proofs.Ends.{chain-fits}
@@ -68,9 +68,6 @@ positionOf anns g (Announced a) = positionIf (announcementAt anns a .request) g 
 abbrev pub headPosition : Machine → Ghost → ℕ
 headPosition m g = positionOf (m .announcements) g (m .ends .head)
 
-abbrev pub requestIn : Machine → ℕ → Request
-requestIn m a = announcementAt (m .announcements) a .request
-
 -- the machine's test whether the batch of announcement a is linked, while its old tail is unset
 abbrev pub tailLeadsToBatch : Machine → ℕ → Bool
 tailLeadsToBatch m a = leadsTo (cellAt (m .links) (m .ends .tail .node) .link) (requestIn m a .first)
@@ -85,17 +82,6 @@ ArrivesAt g q (A5 o) = ⊥
 ArrivesAt g q (A6 s x left) = (j : ℕ) × At (g .chain) j x × (j + left ≡ q)
 ArrivesAt g q (A7 s x) = At (g .chain) q x
 ArrivesAt g q (A8 t x) = ⊥
-
--- every link that a walk reads leads on
-abbrev pub EveryLinkLeadsOn : List Cell → RunStep → Type 0
-EveryLinkLeadsOn links A1 = Unit {0}
-EveryLinkLeadsOn links (A2 t) = Unit {0}
-EveryLinkLeadsOn links (A3 t) = Unit {0}
-EveryLinkLeadsOn links (A4 t) = Unit {0}
-EveryLinkLeadsOn links (A5 o) = Unit {0}
-EveryLinkLeadsOn links (A6 s x left) = (n : ℕ) → n < left → (y : ℕ) × (cellAt links (walked links x n) .link ≡ To y)
-EveryLinkLeadsOn links (A7 s x) = Unit {0}
-EveryLinkLeadsOn links (A8 t x) = Unit {0}
 
 -- a batch that is linked is linked behind some position
 linked-somewhere : (g : Ghost) → InvEnds g → (a j : ℕ) → At (g .by) j (some a) → (p : ℕ) × Linked g a p

@@ -40,7 +40,7 @@ use Rattle.order.proofs.Accepted.{tally-one-more}
 use Rattle.order.proofs.Steps.{Ok, put-back, put-back-as}
 
 -- the enqueues among calls are not more than the calls
-enqueues-are-calls : (cs : List (Call ℕ)) → length (enqueued cs) ≤ length cs
+pub enqueues-are-calls : (cs : List (Call ℕ)) → length (enqueued cs) ≤ length cs
 unfolding enqueued
 enqueues-are-calls [] = omega arith
 enqueues-are-calls (enqueue v ∷ cs) = omega (arith, enqueues-are-calls cs)

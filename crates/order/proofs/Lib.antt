@@ -34,4 +34,6 @@ pub mod Flags
 pub mod FlagsKept
 pub mod Reached
 pub mod LinkedSoFar
+pub mod SameThreads
+pub mod Fits
 pub mod Promises

@@ -119,7 +119,7 @@ module _ (m : Machine) (g : Ghost) (ok : Ok m g) (i : ℕ) (lt : i < 8) (steps :
   taken-tells t read l nodes who (To x) e same = nothing-more steps h
 
   -- the nodes of the batch are those met from its first one on
-  batch-nodes : (r : Row) (a : ℕ) (k : Resume) (there : In (g .installed) a) → KnowsResume (sharedOf m) g i a r k → (t : Tail) → KnowsRun (sharedOf m) g a (A3 t) → next (m .links) (t .node) ≡ none
+  pub batch-nodes : (r : Row) (a : ℕ) (k : Resume) (there : In (g .installed) a) → KnowsResume (sharedOf m) g i a r k → (t : Tail) → KnowsRun (sharedOf m) g a (A3 t) → next (m .links) (t .node) ≡ none
       → batchOf g a .nodes ≡ batchNodes (memoryOf m) (announcementAt (m .announcements) a .request)
   batch-nodes r a k there resumes t knows free =
       let own = own-batch (sharedOf m) g (ok .inv) i r a k there resumes in

@@ -1,4 +1,4 @@
--- A step of the machine, with what the end of a call tells, and Run as a fold of steps: both keep the invariant.
+-- A step of the machine, with what the end of a call tells, keeps the invariant.
 use Prim.Native.Nat.{ℕ, zero, suc, _<_, _≤_}
 use mathlib.Core.Path.{_≡_, refl, sym, ap, _∙_, subst}
 use mathlib.Core.Bool.{Bool, true, false, cond}

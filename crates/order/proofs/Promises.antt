@@ -1,5 +1,5 @@
 -- The promises hold after any list of entries from a fresh machine.
-use Prim.Native.Nat.{ℕ, suc, _+_, _%_, _<_}
+use Prim.Native.Nat.{ℕ, suc, _+_, _%_, _<_, _≤_}
 use mathlib.Core.Path.{_≡_, refl, sym, ap, _∙_, subst}
 use mathlib.Core.List.{List, [], _∷_, _++_}
 use mathlib.Core.Option.{some}
@@ -26,24 +26,27 @@ use Rattle.call.proofs.Ranges.{in-range}
 use Rattle.machine.specs.declared.Machine.{Machine}
 use Rattle.machine.specs.State.{freshMachine, rowAt, memoryOf, noFuture}
 use Rattle.machine.specs.Steps.{hop}
-use Rattle.order.specs.Links.{next}
+use Rattle.order.specs.Links.{led, next}
 use Rattle.order.specs.Ghost.{Ghost, pendingOf, freshGhost}
 use Rattle.order.specs.Reached.{after}
 use Rattle.order.specs.PairingReads.{AllStayOn, turnsAfter}
-use Rattle.order.specs.Promises.{stepLinks, linkSteps, together, linked, OneChain, LastOf, OneBehind, TailNear, HeadsLinked, ReadsOn, WalksStayOn, Queue}
+use Rattle.order.specs.Promises.{stepLinks, linkSteps, together, linked, OneChain, LastOf, OneBehind, TailNear, HeadsLinked, ReadsOn, WalksStayOn, BatchesWhole, Queue}
 use Rattle.order.proofs.Shared.{sharedOf}
 use Rattle.order.proofs.Knows.{KnowsAt, KnowsRun}
 use Rattle.order.proofs.RunReads.{goal-within}
+use Rattle.order.proofs.RunSteps.{asks}
 use Rattle.order.proofs.Steps.{Ok}
 use Rattle.order.proofs.ContentsWalk.{link-leads-on}
-use Rattle.order.proofs.AbstractHead.{head-or-old-head-at, abstract-head-at, each-met-is-in-the-chain, met-fewer-than-followed, last-link-is-none}
+use Rattle.order.proofs.AbstractHead.{link-leads-means-linked, walk-stays-in-the-chain, head-or-old-head-at, abstract-head-at, each-met-is-in-the-chain, met-fewer-than-followed, last-link-is-none}
 use Rattle.order.proofs.PairingCounts.{Flagged, flagged-pairing-stays-on}
 use Rattle.order.proofs.Flags.{Flags}
+use Rattle.order.proofs.Fits.{fits}
 use Rattle.order.proofs.FlagsKept.{after-flags, fresh-flags}
+use Rattle.order.proofs.SameThreads.{same-threads}
 use Rattle.order.proofs.Reached.{fresh-ok, after-ok}
-use Rattle.order.proofs.LinkedSoFar.{Tells, one-more, place-tells, after-tells, fresh-tells}
+use Rattle.order.proofs.LinkedSoFar.{Tells, one-more, batch-nodes, place-tells, after-tells, fresh-tells}
 
-module _ (m : Machine) (g : Ghost) (ok : Ok m g) (steps : List (List ℕ)) (h : Tells g steps) (flags : Flags m g) where
+module _ (m : Machine) (g : Ghost) (ok : Ok m g) (steps : List (List ℕ)) (h : Tells g steps) (flags : Flags m g) (threads : m .threads ≤ 8) where
   -- a node of the chain beside the machine is a linked node
   is-linked : (k n : ℕ) → At (g .chain) k n → At (linked steps) k n
   is-linked k n p = subst (λ (c : List ℕ). At c k n) (h .chain) p
@@ -142,15 +145,26 @@ module _ (m : Machine) (g : Ghost) (ok : Ok m g) (steps : List (List ℕ)) (h : 
   walks-stay-on = record {
     reads = λ t lt. reads-on t (rowAt m t) (rowAt m t .place) (ok .knows t lt .place);
     pairing = pairing-stays;
+    headWalk = λ a o e is. let there = ok .inv .head .thereInstalled a e in let w = ok .inv .linked .oldTails a o is there in walk-stays-in-the-chain m g (ok .inv) a there o (w .0) (w .1);
+    headWalkFromTail = λ a e leads.
+    let there = ok .inv .head .thereInstalled a e in
+    walk-stays-in-the-chain m g (ok .inv) a there (m .ends .tail) (link-leads-means-linked m g (ok .inv) a there leads) (ok .inv .tail .tailAt);
     contents = λ j n p. (_, is-linked _ _ (each-met-is-in-the-chain m g (ok .inv) j n p));
     notCut = met-fewer-than-followed m g (ok .inv);
   }
 
+  -- until a batch is linked its nodes stand beside the chain, linked one behind the other
+  batches-whole : BatchesWhole m
+  batches-whole t a l k lt at-a3 free =
+      let w = subst (KnowsAt (sharedOf m) g t (rowAt m t)) at-a3 (ok .knows t lt .place) in
+      ap length (sym (batch-nodes m g ok t lt steps h (rowAt m t) a k (w .0) (w .1) l (w .2) (ap led free))) ∙ asks (sharedOf m) g (ok .inv) t (rowAt m t) a k (w .0) (w .1) .many
+
   queue : Queue m steps
-  queue = record { chain = one-chain; tail = tail-near; heads = heads-linked; walks = walks-stay-on }
+  queue = record { chain = one-chain; tail = tail-near; heads = heads-linked; walks = walks-stay-on; batches = batches-whole; fits = fits m g ok flags threads }
 
 pub the-queue-is-a-queue : (threads nodes : ℕ) → inRange threads nodes ≡ Accepted → (es : List Entry)
     → Queue (after (freshMachine threads nodes) es) (linkSteps (freshMachine threads nodes) es)
 the-queue-is-a-queue threads nodes e es =
     let fresh = fresh-ok threads nodes (in-range threads nodes e .1) in
     queue _ _ (after-ok es _ _ fresh) _ (after-tells es (freshMachine threads nodes) freshGhost fresh [] fresh-tells) (after-flags es _ _ fresh (fresh-flags threads nodes))
+    (omega (arith, same-threads es (freshMachine threads nodes), in-range threads nodes e))

@@ -2,4 +2,5 @@ pub mod Links
 pub mod Ghost
 pub mod Reached
 pub mod PairingReads
+pub mod Fits
 pub mod Promises

@@ -3,28 +3,33 @@
 -- no walk runs off the end."
 use Prim.Native.Nat.{ℕ, zero, suc, _%_, _<_, _≤_}
 use mathlib.Core.Path.{_≡_}
-use mathlib.Core.Bool.{cond}
+use mathlib.Core.Bool.{true, cond}
 use mathlib.Core.List.{List, [], _∷_, _++_}
 use mathlib.Core.Option.{some}
 use mathlib.Core.Logic.{_⊎_}
 use lib.ListN.{length}
 use Rattle.chain.specs.Positions.{At, In, Once}
 use Rattle.chain.specs.Chain.{following}
+use Rattle.memory.specs.declared.Cell.{Cell}
+use Rattle.memory.specs.declared.Tail.{Tail}
 use Rattle.memory.specs.declared.Front.{Front}
 use Rattle.memory.specs.declared.Head.{Head}
 use Rattle.memory.specs.declared.Head.the-variants.{Plain, Announced}
 use Rattle.memory.specs.declared.Link.{Link}
 use Rattle.memory.specs.declared.Link.the-variants.{None, To}
+use Rattle.memory.specs.declared.OldTail.the-variants.{Set}
 use Rattle.memory.specs.declared.Request.{Request}
 use Rattle.memory.specs.Memory.{Memory, cellAt, announcementAt}
 use Rattle.thread.specs.declared.Place.{Place}
 use Rattle.thread.specs.declared.Place.the-variants.{Idle, Enqueue, Dequeue, Batch, Dequeues, Running}
+use Rattle.thread.specs.declared.Resume.{Resume}
 use Rattle.thread.specs.declared.enqueue.EnqueueStep.{EnqueueStep}
 use Rattle.thread.specs.declared.enqueue.EnqueueStep.the-variants.{E1, E2, E3, E4, E5}
 use Rattle.thread.specs.declared.dequeues.DequeuesStep.{DequeuesStep}
 use Rattle.thread.specs.declared.dequeues.DequeuesStep.the-variants.{Q1, Q2, Q3}
 use Rattle.thread.specs.declared.running.RunStep.{RunStep}
 use Rattle.thread.specs.declared.running.RunStep.the-variants.{A1, A2, A3, A4, A5, A6, A7, A8}
+use Rattle.thread.specs.Running.{walkTo}
 use Rattle.call.specs.declared.answer.Verdict.{Verdict}
 use Rattle.call.specs.declared.answer.Verdict.the-variants.{Accepted, Refused}
 use Rattle.call.specs.declared.entry.Entry.{Entry}
@@ -33,9 +38,10 @@ use Rattle.call.specs.Refusals.{steppable}
 use Rattle.machine.specs.declared.Machine.{Machine}
 use Rattle.machine.specs.State.{rowAt, memoryOf}
 use Rattle.machine.specs.Steps.{hop, stepOf, isMore}
-use Rattle.machine.specs.Contents.{abstractHead, chainAfter}
+use Rattle.machine.specs.Contents.{walked, leadsTo, abstractHead, chainAfter}
 use Rattle.machine.specs.Entries.{apply}
 use Rattle.order.specs.Links.{next}
+use Rattle.order.specs.Fits.{Fits}
 use Rattle.order.specs.PairingReads.{AllStayOn, turnsAfter}
 
 -- LINK STEPS. A link step is an e2 or an a3 that is taken, which it is where the link that it compares is none. It is told by the nodes that
@@ -125,10 +131,13 @@ pub record OneBehind (tail : ℕ) (steps : List (List ℕ)) : Type 0 where
 abbrev pub TailNear : Machine → List (List ℕ) → Type 0
 TailNear m steps = LastOf (linked steps) (m .ends .tail .node) ⊎ OneBehind (m .ends .tail .node) steps
 
+abbrev pub requestIn : Machine → ℕ → Request
+requestIn m a = announcementAt (m .announcements) a .request
+
 -- the head, or the old head while an announcement is in it
 abbrev pub headOrOld : Machine → Head → Front
 headOrOld m (Plain f) = f
-headOrOld m (Announced a) = announcementAt (m .announcements) a .request .«old_head»
+headOrOld m (Announced a) = requestIn m a .«old_head»
 
 pub record HeadsLinked (m : Machine) (steps : List (List ℕ)) : Type 0 where
   pub head : In (linked steps) (headOrOld m (m .ends .head) .node)
@@ -158,17 +167,41 @@ ReadsOn m c (Batch b x) = Unit {0}
 ReadsOn m c (Dequeues x) = DequeuesReadOn c x
 ReadsOn m c (Running a x k) = RunReadsOn m c x
 
+-- every link that a walk reads leads on
+abbrev pub EveryLinkLeadsOn : List Cell → RunStep → Type 0
+EveryLinkLeadsOn links A1 = Unit {0}
+EveryLinkLeadsOn links (A2 t) = Unit {0}
+EveryLinkLeadsOn links (A3 t) = Unit {0}
+EveryLinkLeadsOn links (A4 t) = Unit {0}
+EveryLinkLeadsOn links (A5 o) = Unit {0}
+EveryLinkLeadsOn links (A6 s x left) = (n : ℕ) → n < left → (y : ℕ) × (cellAt links (walked links x n) .link ≡ To y)
+EveryLinkLeadsOn links (A7 s x) = Unit {0}
+EveryLinkLeadsOn links (A8 t x) = Unit {0}
+
 -- Whatever step is next, the turns of the pairing at its end stay on the linked nodes, with those of the step itself (PairingReads.antt says
--- what a turn reads, and that it goes on where a link is there). The walk of the contents is over linked nodes and ends by itself.
+-- what a turn reads, and that it goes on where a link is there). No link is missing on the
+-- walk to the abstract head from a set old tail, or, while that is unset, from a tail whose link leads to the batch. The walk of the contents is
+-- over linked nodes and ends by itself.
 pub record WalksStayOn (m : Machine) (steps : List (List ℕ)) : Type 0 where
   pub reads : (t : ℕ) → t < 8 → ReadsOn m (linked steps) (rowAt m t .place)
   pub pairing : (t : ℕ) → t < 8
       → AllStayOn (hop m t .machine .links) (linked (steps ++ stepLinks (memoryOf m) (rowAt m t .place))) (turnsAfter (hop m t .machine) t (hop m t .after))
+  pub headWalk : (a : ℕ) (o : Tail) → m .ends .head ≡ Announced a → announcementAt (m .announcements) a .«old_tail» ≡ Set o → EveryLinkLeadsOn (m .links) (walkTo (requestIn m a) o)
+  pub headWalkFromTail : (a : ℕ) → m .ends .head ≡ Announced a → leadsTo (cellAt (m .links) (m .ends .tail .node) .link) (requestIn m a .first) ≡ true
+      → EveryLinkLeadsOn (m .links) (walkTo (requestIn m a) (m .ends .tail))
   pub contents : (j n : ℕ) → At (chainAfter 512 (m .links) (abstractHead m)) j n → In (linked steps) n
   pub notCut : length (chainAfter 512 (m .links) (abstractHead m)) < 512
 
+-- One a3 links all nodes of its batch: as many as it has enqueues.
+abbrev pub BatchesWhole : Machine → Type 0
+BatchesWhole m = (t a : ℕ) (l : Tail) (k : Resume) → t < 8 → rowAt m t .place ≡ Running a (A3 l) k → cellAt (m .links) (l .node) .link ≡ None
+    → length (batchNodes (memoryOf m) (requestIn m a)) ≡ requestIn m a .tally .enqueues
+
+-- No remainder, wrap or cut-off subtraction that makes the code total is ever met: Fits.antt.
 pub record Queue (m : Machine) (steps : List (List ℕ)) : Type 0 where
   pub chain : OneChain m steps
   pub tail : TailNear m steps
   pub heads : HeadsLinked m steps
   pub walks : WalksStayOn m steps
+  pub batches : BatchesWhole m
+  pub fits : Fits m
