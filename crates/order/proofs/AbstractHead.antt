@@ -23,7 +23,6 @@ use Rattle.memory.specs.declared.Tail.{Tail}
 use Rattle.memory.specs.declared.Front.{Front}
 use Rattle.memory.specs.declared.Head.{Head}
 use Rattle.memory.specs.declared.Head.the-variants.{Plain, Announced}
-use Rattle.memory.specs.declared.Cell.{Cell}
 use Rattle.memory.specs.declared.Link.{Link}
 use Rattle.memory.specs.declared.Link.the-variants.{None, To}
 use Rattle.memory.specs.declared.OldTail.{OldTail}
@@ -37,7 +36,7 @@ use Rattle.thread.specs.Running.{sizeAt, walkTo}
 use Rattle.row.specs.Row.{noRow}
 use Rattle.machine.specs.declared.Machine.{Machine}
 use Rattle.machine.specs.State.{noItem}
-use Rattle.machine.specs.Contents.{walked, reached, headToBe, leadsTo, oldTailHead, headNode, abstractHead, chainAfter, contents}
+use Rattle.machine.specs.Contents.{reached, headToBe, leadsTo, oldTailHead, headNode, abstractHead, chainAfter, contents}
 use Rattle.order.specs.Ghost.{Ghost}
 use Rattle.order.specs.Promises.{requestIn, headOrOld, EveryLinkLeadsOn}
 use Rattle.order.proofs.Shared.{sharedOf, no-link}

@@ -1,20 +1,16 @@
 -- No remainder, wrap or cut-off subtraction that makes the code total is ever met: the nodes that steps name are in the chain or were handed out
 -- to their thread, the counts are positions in the chain, which has no more than 512 nodes, and a batch is of at most 32 calls.
-use Prim.Native.Nat.{ℕ, zero, suc, _+_, _-_, _<_, _≤_}
-use mathlib.Core.Path.{_≡_, refl, sym, ap, _∙_, subst}
+use Prim.Native.Nat.{ℕ, _-_, _<_, _≤_}
+use mathlib.Core.Path.{ap}
 use mathlib.Core.List.{List, [], _∷_}
 use native.Mathlib.Omega.{arith}
-use lib.ListN.{length, getD}
+use lib.ListN.{length}
 use Rattle.chain.specs.Positions.{At, In}
 use Rattle.chain.proofs.Positions.{within, element}
 use Rattle.tally.specs.Fifo.{Call, enqueue, dequeue}
 use Rattle.tally.specs.Excess.{excess, enqueues, dequeues}
-use Rattle.tally.specs.Tally.{tallyOf}
 use Rattle.tally.specs.declared.Tally.{Tally}
 use Rattle.tally.proofs.Counts.{lemma-5-3, failing-and-successful}
-use Rattle.memory.specs.declared.Tail.{Tail}
-use Rattle.memory.specs.declared.OldTail.the-variants.{Set}
-use Rattle.memory.specs.Memory.{announcementAt}
 use Rattle.thread.specs.declared.Place.{Place}
 use Rattle.thread.specs.declared.Place.the-variants.{Idle, Enqueue, Dequeue, Batch, Dequeues, Running}
 use Rattle.thread.specs.declared.enqueue.EnqueueStep.{EnqueueStep}
@@ -26,17 +22,15 @@ use Rattle.thread.specs.declared.dequeues.DequeuesStep.{DequeuesStep}
 use Rattle.thread.specs.declared.dequeues.DequeuesStep.the-variants.{Q1, Q2, Q3}
 use Rattle.thread.specs.declared.running.RunStep.{RunStep}
 use Rattle.thread.specs.declared.running.RunStep.the-variants.{A1, A2, A3, A4, A5, A6, A7, A8}
-use Rattle.thread.specs.Running.{sizeAt}
 use Rattle.row.specs.declared.Row.{Row}
 use Rattle.machine.specs.declared.Machine.{Machine}
 use Rattle.machine.specs.State.{rowAt}
 use Rattle.order.specs.Ghost.{Ghost, pendingOf}
-use Rattle.order.specs.Fits.{NodeFits, Rises, EnqueueFits, DequeueFits, DequeuesFits, SizeFits, RunFits, PlaceFits, RowFits, Fits}
+use Rattle.order.specs.Fits.{NodeFits, Rises, EnqueueFits, DequeueFits, DequeuesFits, RunFits, PlaceFits, RowFits, Fits}
 use Rattle.order.proofs.Shared.{Shared, sharedOf}
-use Rattle.order.proofs.Invariant.{Inv, FrontAt}
 use Rattle.order.proofs.Ends.{position-small, node-small, installed-small}
-use Rattle.order.proofs.Knows.{Single, NotAnnounced, TailRead, Tallied, requestOf, KnowsEnqueue, KnowsDequeue, KnowsDequeues, KnowsRun, KnowsAt}
-use Rattle.order.proofs.RunReads.{the-batch, goal-within}
+use Rattle.order.proofs.Knows.{Single, NotAnnounced, requestOf, KnowsEnqueue, KnowsDequeue, KnowsDequeues, KnowsRun, KnowsAt}
+use Rattle.order.proofs.RunReads.{the-batch}
 use Rattle.order.proofs.Deferred.{enqueues-are-calls}
 use Rattle.order.proofs.Steps.{Ok}
 use Rattle.order.proofs.Flags.{Flags}
@@ -95,18 +89,24 @@ module _ (m : Machine) (g : Ghost) (ok : Ok m g) where
       let b = the-batch s g (ok .inv) t r a there in
       let tally = ok .inv .batches .asks a (b .0) (b .1) .tally in
       let linked = ok .inv .linked .oldTails a o w there .0 in
-      let shape = ok .inv .linked .shape a (linked .step) (o .count .0) (linked .is) (linked .from) in
-      (in-chain-fits _ _ (shape .lastAt), record {
-        rises = omega (arith, position-small s g (ok .inv) _ _ (shape .lastAt));
-        size = shape .oldHeadBefore;
-        successful = omega (arith, ap (λ (y : Tally). y .excess) tally, ap (λ (y : Tally). y .dequeues) tally, excess-le-dequeues (b .0 .calls));
-      })
+      let shape = ok .inv .linked .shape a (linked .step) (o .count .0) (linked .is) (linked .from) in (
+        in-chain-fits _ _ (shape .lastAt),
+        record {
+          rises = omega (arith, position-small s g (ok .inv) _ _ (shape .lastAt));
+          size = shape .oldHeadBefore;
+          successful = omega (arith, ap (λ (y : Tally). y .excess) tally, ap (λ (y : Tally). y .dequeues) tally, excess-le-dequeues (b .0 .calls));
+        },
+      )
   run-fits t a r there (A6 rise x left) w = (in-chain-fits _ _ (w .2), w .3)
   run-fits t a r there (A7 rise x) w = (in-chain-fits _ _ (w .1), omega (arith, position-small s g (ok .inv) _ _ (w .1), w .2))
   run-fits t a r there (A8 l x) w = (in-chain-fits _ _ (w .1), rises-by-one _ _ (w .0 .is))
 
-  place-fits : (t : ℕ) (r : Row) (p : Place) → KnowsAt s g t r p → PlaceFits m p
-  place-fits t r Idle w = tt
+  place-fits : (t : ℕ) (r : Row) (p : Place) → KnowsAt s g t r p → PlaceFits m r p
+  place-fits t r Idle w = λ some.
+      let last = element (w .nodes) (r .tally .enqueues - 1) (omega (arith, w .many)) in
+      let is = w .lastIs (r .tally .enqueues - 1) (last .0) (omega (arith, w .many)) (last .1) in
+      let mine = w .private .mine (r .tally .enqueues - 1) (last .0) (last .1) in
+      omega (arith, is, within (g .nodeOwners) (last .0) (mine .owner), ok .inv .chain .owned, ok .inv .chain .room)
   place-fits t r (Enqueue n x) w = enqueue-fits t n x (w .0)
   place-fits t r (Dequeue x) w = dequeue-fits x (w .0)
   place-fits t r (Batch b B1) w = announced-fits t b (w .0)
@@ -122,6 +122,7 @@ module _ (m : Machine) (g : Ghost) (ok : Ok m g) where
         enqueues = omega (arith, ap (λ (y : Tally). y .enqueues) (w .tally), enqueues-are-calls (pendingOf g t), w .few);
         dequeues = omega (arith, ap (λ (y : Tally). y .dequeues) (w .tally), dequeues-are-calls (pendingOf g t), w .few);
         futures = λ j h. let c = element (pendingOf g t) j (omega (arith, w .count)) in omega (arith, flags .each t lt .handedOut j (c .0) (c .1), flags .room);
+        asked = flags .asked t lt;
       }
 
   pub fits : Flags m g → m .threads ≤ 8 → Fits m

@@ -34,6 +34,7 @@ pub record FlagsOf (fs : List Future) (used : ℕ) (pending : List ℕ) (cs : Li
 
 pub record Flags (m : Machine) (g : Ghost) : Type 0 where
   pub each : (t : ℕ) → t < 8 → FlagsOf (m .futures) (m .used .futures) (rowAt m t .pending) (pendingOf g t)
+  pub asked : (t : ℕ) → t < 8 → rowAt m t .future < 512
   pub futures : length (m .futures) ≡ 512
   pub room : m .used .futures ≤ 512
 
@@ -57,9 +58,10 @@ carried c h = record {
 -- one row, and the pending calls of its thread, change
 pub put-flags : (m : Machine) (g : Ghost) → Flags m g → length (m .rows) ≡ 8 → (i : ℕ) → i < 8 → (m′ : Machine) (g′ : Ghost) (row : Row) → m′ .rows ≡ set (m .rows) i row
     → ((u : ℕ) → u ≢ i → pendingOf g′ u ≡ pendingOf g u) → Carries (m .futures) (m .used .futures) (m′ .futures) (m′ .used .futures)
-    → FlagsOf (m′ .futures) (m′ .used .futures) (row .pending) (pendingOf g′ i) → Flags m′ g′
-put-flags m g h rows i lt m′ g′ row put others carries mine = record {
+    → FlagsOf (m′ .futures) (m′ .used .futures) (row .pending) (pendingOf g′ i) → row .future < 512 → Flags m′ g′
+put-flags m g h rows i lt m′ g′ row put others carries mine asks = record {
   each = λ t lt′. elim (ℕ-discrete t i) [ yes e ↦ subst (λ (u : ℕ). Here u) (sym e) here | no ne ↦ elsewhere t lt′ ne ];
+  asked = λ t lt′. elim (ℕ-discrete t i) [ yes e ↦ subst (λ (u : ℕ). rowAt m′ u .future < 512) (sym e) (subst (λ (r : Row). r .future < 512) (sym here-is) asks) | no ne ↦ subst (λ (r : Row). r .future < 512) (sym (elsewhere-is t ne)) (h .asked t lt′) ];
   futures = carries .long ∙ h .futures;
   room = carries .room (h .room);
 }
@@ -67,15 +69,18 @@ put-flags m g h rows i lt m′ g′ row put others carries mine = record {
     Here : ℕ → Type 0
     Here t = FlagsOf (m′ .futures) (m′ .used .futures) (rowAt m′ t .pending) (pendingOf g′ t)
 
+    here-is : rowAt m′ i ≡ row
+    here-is = ap (λ (l : List Row). getD l i noRow) put ∙ getD-set-same (m .rows) i row noRow (omega (arith, rows))
+
+    elsewhere-is : (t : ℕ) → t ≢ i → rowAt m′ t ≡ rowAt m t
+    elsewhere-is t ne = ap (λ (l : List Row). getD l t noRow) put ∙ getD-set-other (m .rows) i t row noRow ne
+
     here : Here i
-    here =
-        let is : rowAt m′ i ≡ row = ap (λ (l : List Row). getD l i noRow) put ∙ getD-set-same (m .rows) i row noRow (omega (arith, rows)) in
-        subst (λ (r : Row). FlagsOf (m′ .futures) (m′ .used .futures) (r .pending) (pendingOf g′ i)) (sym is) mine
+    here = subst (λ (r : Row). FlagsOf (m′ .futures) (m′ .used .futures) (r .pending) (pendingOf g′ i)) (sym here-is) mine
 
     elsewhere : (t : ℕ) → t < 8 → t ≢ i → Here t
     elsewhere t lt′ ne =
-        let is : rowAt m′ t ≡ rowAt m t = ap (λ (l : List Row). getD l t noRow) put ∙ getD-set-other (m .rows) i t row noRow ne in
-        subst (λ (r : Row). FlagsOf (m′ .futures) (m′ .used .futures) (r .pending) (pendingOf g′ t)) (sym is)
+        subst (λ (r : Row). FlagsOf (m′ .futures) (m′ .used .futures) (r .pending) (pendingOf g′ t)) (sym (elsewhere-is t ne))
         (subst (FlagsOf (m′ .futures) (m′ .used .futures) (rowAt m t .pending)) (sym (others t ne)) (carried carries (h .each t lt′)))
 
 -- one more future is handed out, and one more call is pending
@@ -127,12 +132,12 @@ pair-keeps (suc n) links items last pending k fs c =
 
 module _ (m : Machine) (g : Ghost) (ok : Ok m g) (h : Flags m g) (i : ℕ) (lt : i < 8) where
   -- the row's place changes, nothing is deferred
-  pub row-moves : (m′ : Machine) (g′ : Ghost) (row : Row) → m′ .rows ≡ set (m .rows) i row → row .pending ≡ rowAt m i .pending → m′ .futures ≡ m .futures → m′ .used .futures ≡ m .used .futures
+  pub row-moves : (m′ : Machine) (g′ : Ghost) (row : Row) → m′ .rows ≡ set (m .rows) i row → row .pending ≡ rowAt m i .pending → row .future < 512 → m′ .futures ≡ m .futures → m′ .used .futures ≡ m .used .futures
       → g′ .pending ≡ g .pending → Flags m′ g′
-  row-moves m′ g′ row put same fs used calls =
+  row-moves m′ g′ row put same asks fs used calls =
       put-flags m g h (ok .rows) i lt m′ g′ row put (λ u ne. ap (λ (l : List (List (Call ℕ))). getD l u []) calls) kept
       (subst (λ (l : List ℕ). FlagsOf (m′ .futures) (m′ .used .futures) l (pendingOf g′ i)) (sym same)
-      (subst (FlagsOf (m′ .futures) (m′ .used .futures) (rowAt m i .pending)) (sym (ap (λ (l : List (List (Call ℕ))). getD l i []) calls)) (carried kept (h .each i lt))))
+      (subst (FlagsOf (m′ .futures) (m′ .used .futures) (rowAt m i .pending)) (sym (ap (λ (l : List (List (Call ℕ))). getD l i []) calls)) (carried kept (h .each i lt)))) asks
     where
       kept : Carries (m .futures) (m .used .futures) (m′ .futures) (m′ .used .futures)
       kept = record {
@@ -144,9 +149,9 @@ module _ (m : Machine) (g : Ghost) (ok : Ok m g) (h : Flags m g) (i : ℕ) (lt :
 
   -- a call is deferred
   pub deferred : (c : Call ℕ) (x : Future) → x .enqueue ≡ isEnqueue c → m .used .futures < 512 → rowAt m i .count < 32 → (m′ : Machine) (g′ : Ghost) (row : Row)
-      → m′ .rows ≡ set (m .rows) i row → row .pending ≡ set (rowAt m i .pending) (rowAt m i .count % 32) (nextFuture (m .used))
+      → m′ .rows ≡ set (m .rows) i row → row .pending ≡ set (rowAt m i .pending) (rowAt m i .count % 32) (nextFuture (m .used)) → row .future ≡ rowAt m i .future
       → m′ .futures ≡ set (m .futures) (nextFuture (m .used)) x → m′ .used .futures ≡ up (m .used .futures) → g′ .pending ≡ set (g .pending) i (pendingOf g i ++ (c ∷ [])) → Flags m′ g′
-  deferred c x is left few m′ g′ row put pending fs used calls =
+  deferred c x is left few m′ g′ row put pending same fs used calls =
       put-flags m g h (ok .rows) i lt m′ g′ row put (λ u ne. ap (λ (l : List (List (Call ℕ))). getD l u []) calls ∙ getD-set-other (g .pending) i u _ [] ne)
       (subst (λ (l : List Future). Carries (m .futures) (m .used .futures) l (m′ .used .futures)) (sym fs)
       (subst (Carries (m .futures) (m .used .futures) (set (m .futures) (nextFuture (m .used)) x)) (sym used) (one-more-future (m .futures) (m .used .futures) x left)))
@@ -155,6 +160,7 @@ module _ (m : Machine) (g : Ghost) (ok : Ok m g) (h : Flags m g) (i : ℕ) (lt :
       (subst (λ (l : List ℕ). FlagsOf (set (m .futures) (nextFuture (m .used)) x) (up (m .used .futures)) l (pendingOf g′ i)) (sym pending)
       (subst (FlagsOf (set (m .futures) (nextFuture (m .used)) x) (up (m .used .futures)) _) (sym cs-is)
       (one-more-flag (m .futures) (m .used .futures) (rowAt m i .pending) (pendingOf g i) (h .each i lt) (h .futures) left (rowAt m i .count) (ok .knows i lt .tallied .count) few c x is)))))
+      (subst (λ (f : ℕ). f < 512) (sym same) (h .asked i lt))
     where
       cs-is : pendingOf g′ i ≡ pendingOf g i ++ (c ∷ [])
       cs-is = ap (λ (l : List (List (Call ℕ))). getD l i []) calls ∙ getD-set-same (g .pending) i _ [] (omega (arith, ok .pendings))

@@ -1,6 +1,6 @@
 -- Every entry leaves the futures of the pending calls flagged as the calls are.
 use Prim.Native.Nat.{ℕ, zero, suc, _%_, _<_}
-use mathlib.Core.Path.{_≡_, refl, ap, _∙_}
+use mathlib.Core.Path.{_≡_, refl, sym, ap, _∙_, subst}
 use mathlib.Core.Bool.{Bool, true, false, cond}
 use mathlib.Core.List.{List, [], _∷_}
 use native.Mathlib.Omega.{arith}
@@ -60,7 +60,7 @@ module _ (m : Machine) (g : Ghost) (ok : Ok m g) (h : Flags m g) (i : ℕ) (lt :
 
   moved-flags : Flags m₁ g₁
   unfolding hop
-  moved-flags = row-moves m g ok h i lt m₁ g₁ (placed (rowAt m i) (placeAfter (hop m i .after))) refl refl refl refl (pending-kept (memoryOf m) g (rowAt m i .place))
+  moved-flags = row-moves m g ok h i lt m₁ g₁ (placed (rowAt m i) (placeAfter (hop m i .after))) refl refl (h .asked i lt) refl refl (pending-kept (memoryOf m) g (rowAt m i .place))
 
   rows-kept : length (m₁ .rows) ≡ 8
   unfolding hop
@@ -76,6 +76,7 @@ module _ (m : Machine) (g : Ghost) (ok : Ok m g) (h : Flags m g) (i : ℕ) (lt :
         handedOut = λ j x p. absurd (nothing j x p);
         flagged = λ j x p. absurd (nothing j x p);
       })
+      (moved-flags .asked i lt)
     where
       room : i < length (g₁ .pending)
       room = omega (arith, ap length (pending-kept (memoryOf m) g (rowAt m i .place)), ok .pendings)
@@ -116,23 +117,23 @@ module _ (m : Machine) (g : Ghost) (ok : Ok m g) (h : Flags m g) (i : ℕ) (lt :
   unfolding deferEnqueue linkedBehind
   deferred-enqueue-flags v left few =
       deferred m g ok h i lt (enqueue (v .value)) (record { owner = i; enqueue = true; outcome = outcome.Waiting }) refl left few _ _
-      (withEnqueue (rowAt m i) (nextFuture (m .used)) (nextNode (m .used))) refl refl refl refl refl
+      (withEnqueue (rowAt m i) (nextFuture (m .used)) (nextNode (m .used))) refl refl refl refl refl refl
 
   deferred-dequeue-flags : m .used .futures < 512 → rowAt m i .count < 32 → Flags (deferDequeue m i) (deferDequeueGhost g i)
   unfolding deferDequeue
   deferred-dequeue-flags left few =
       deferred m g ok h i lt dequeue (record { owner = i; enqueue = false; outcome = outcome.Waiting }) refl left few _ _
-      (withDequeue (rowAt m i) (nextFuture (m .used))) refl refl refl refl refl
+      (withDequeue (rowAt m i) (nextFuture (m .used))) refl refl refl refl refl refl
 
-  set-off-flags : (f : ℕ) → Flags (setOff m i f) (setOffGhost m g i)
+  set-off-flags : (f : ℕ) → f < 512 → Flags (setOff m i f) (setOffGhost m g i)
   unfolding setOff
-  set-off-flags f = by (eqb (rowAt m i .tally .enqueues) 0)
+  set-off-flags f small = by (eqb (rowAt m i .tally .enqueues) 0)
     where
       by : (b : Bool)
           → Flags (cond b (withRow m i (calling (rowAt m i) (place.Dequeues Q1) f)) (withRow (handOutAnnouncement m (request (rowAt m i))) i (calling (rowAt m i) (place.Batch (nextAnnouncement (m .used)) B1) f)))
           (cond b g (announces g i (record { nodes = pendingNodes (m .links) (rowAt m i); calls = pendingOf g i })))
-      by true = row-moves m g ok h i lt _ _ (calling (rowAt m i) (place.Dequeues Q1) f) refl refl refl refl refl
-      by false = row-moves m g ok h i lt _ _ (calling (rowAt m i) (place.Batch (nextAnnouncement (m .used)) B1) f) refl refl refl refl refl
+      by true = row-moves m g ok h i lt _ _ (calling (rowAt m i) (place.Dequeues Q1) f) refl refl small refl refl refl
+      by false = row-moves m g ok h i lt _ _ (calling (rowAt m i) (place.Batch (nextAnnouncement (m .used)) B1) f) refl refl small refl refl refl
 
 module _ (m : Machine) (g : Ghost) (ok : Ok m g) (h : Flags m g) (i : ℕ) (lt : i < 8) (idle : rowAt m i .place ≡ Idle) where
   start-enqueue-flags : (v : Item) → Left (enqueueNeeds (rowAt m i)) (m .used) (m .nodes) (rowAt m i .count) → Flags (startEnqueue m i v) (startEnqueueGhost m g i (v .value))
@@ -142,11 +143,11 @@ module _ (m : Machine) (g : Ghost) (ok : Ok m g) (h : Flags m g) (i : ℕ) (lt :
       by : (b : Bool) → eqb (rowAt m i .count) 0 ≡ b
           → Flags (cond b (withRow (handOutNode m v) i (placed (rowAt m i) (place.Enqueue (nextNode (m .used)) E1))) (setOff (deferEnqueue m i v) i (nextFuture (m .used))))
           (cond b (owns g i) (setOffGhost (deferEnqueue m i v) (deferEnqueueGhost g i (v .value)) i))
-      by true e = row-moves m g ok h i lt _ _ (placed (rowAt m i) (place.Enqueue (nextNode (m .used)) E1)) refl refl refl refl refl
+      by true e = row-moves m g ok h i lt _ _ (placed (rowAt m i) (place.Enqueue (nextNode (m .used)) E1)) refl refl (h .asked i lt) refl refl refl
       by false e =
           let pending = is-some (rowAt m i .count) (eqb-false _ 0 e) in
           set-off-flags (deferEnqueue m i v) _ (defer-enqueue-keeps m g ok i lt idle v (left .node refl) (left .place pending))
-          (deferred-enqueue-flags m g ok h i lt v (left .future pending) (left .place pending)) i lt (nextFuture (m .used))
+          (deferred-enqueue-flags m g ok h i lt v (left .future pending) (left .place pending)) i lt (nextFuture (m .used)) (omega arith)
 
   start-dequeue-flags : Left (dequeueNeeds (rowAt m i)) (m .used) (m .nodes) (rowAt m i .count) → Flags (startDequeue m i) (startDequeueGhost m g i)
   unfolding startDequeue
@@ -155,11 +156,11 @@ module _ (m : Machine) (g : Ghost) (ok : Ok m g) (h : Flags m g) (i : ℕ) (lt :
       by : (b : Bool) → eqb (rowAt m i .count) 0 ≡ b
           → Flags (cond b (withRow m i (placed (rowAt m i) (place.Dequeue D1))) (setOff (deferDequeue m i) i (nextFuture (m .used))))
           (cond b g (setOffGhost (deferDequeue m i) (deferDequeueGhost g i) i))
-      by true e = row-moves m g ok h i lt _ _ (placed (rowAt m i) (place.Dequeue D1)) refl refl refl refl refl
+      by true e = row-moves m g ok h i lt _ _ (placed (rowAt m i) (place.Dequeue D1)) refl refl (h .asked i lt) refl refl refl
       by false e =
           let pending = is-some (rowAt m i .count) (eqb-false _ 0 e) in
           set-off-flags (deferDequeue m i) _ (defer-dequeue-keeps m g ok i lt idle (left .place pending))
-          (deferred-dequeue-flags m g ok h i lt (left .future pending) (left .place pending)) i lt (nextFuture (m .used))
+          (deferred-dequeue-flags m g ok h i lt (left .future pending) (left .place pending)) i lt (nextFuture (m .used)) (omega arith)
 
 decided-flags : (v : Verdict) (m : Machine) (x : Told) (g g′ : Ghost) → Flags m g → (v ≡ Accepted → Flags (x .machine) g′) → Flags (decided v m x .machine) (whereAccepted v g′ g)
 unfolding decided
@@ -167,13 +168,13 @@ decided-flags Accepted m x g g′ h f = f refl
 decided-flags (Refused r) m x g g′ h f = h
 
 module _ (m : Machine) (g : Ghost) (ok : Ok m g) (h : Flags m g) where
-  own-flags : (i f : ℕ) → i < 8 → (o : Outcome) → Flags (evaluateOwn m i f o .machine) (evaluateOwnGhost m g i o)
+  own-flags : (i f : ℕ) → i < 8 → f < 512 → (o : Outcome) → Flags (evaluateOwn m i f o .machine) (evaluateOwnGhost m g i o)
   unfolding evaluateOwn evaluateWaiting
-  own-flags i f lt outcome.Waiting =
-      decided-flags (lacking (evaluateNeeds (rowAt m i)) (m .used) (m .nodes) (rowAt m i .count)) m _ g _ h (λ e. set-off-flags m g ok h i lt f)
-  own-flags i f lt outcome.Ok = h
-  own-flags i f lt (outcome.Item v) = h
-  own-flags i f lt outcome.Empty = h
+  own-flags i f lt small outcome.Waiting =
+      decided-flags (lacking (evaluateNeeds (rowAt m i)) (m .used) (m .nodes) (rowAt m i .count)) m _ g _ h (λ e. set-off-flags m g ok h i lt f small)
+  own-flags i f lt small outcome.Ok = h
+  own-flags i f lt small (outcome.Item v) = h
+  own-flags i f lt small outcome.Empty = h
 
   known-flags : (t f : ℕ) (x : Future) → Flags (evaluateKnown m t f x .machine) (evaluateGhost m g t f x)
   unfolding evaluateKnown
@@ -181,7 +182,7 @@ module _ (m : Machine) (g : Ghost) (ok : Ok m g) (h : Flags m g) where
     where
       by : (b : Bool) → Flags (cond b (refusing m NotOwnFuture) (evaluateOwn m (t % 8) (f % 512) (x .outcome)) .machine) (cond b g (evaluateOwnGhost m g (t % 8) (x .outcome)))
       by true = h
-      by false = own-flags (t % 8) (f % 512) (omega arith) (x .outcome)
+      by false = own-flags (t % 8) (f % 512) (omega arith) (omega arith) (x .outcome)
 
   run-flags : (t n : ℕ) → Flags (run m t n .machine) (whereAccepted (steppable t (m .threads) (rowAt m (t % 8) .place)) (advanceGhost n m g (t % 8)) g)
   unfolding run
@@ -217,6 +218,7 @@ fresh-flags threads nodes = record {
     handedOut = λ j c p. absurd (nothing t lt j c p);
     flagged = λ j c p. absurd (nothing t lt j c p);
   };
+  asked = λ t lt. subst (λ (r : Row). r .future < 512) (sym (getD-replicate 8 t freshRow noRow lt)) (omega arith);
   futures = length-replicate 512 noFuture;
   room = omega arith;
 }

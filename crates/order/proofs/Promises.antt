@@ -59,6 +59,7 @@ module _ (m : Machine) (g : Ghost) (ok : Ok m g) (steps : List (List ℕ)) (h : 
   one-chain = record {
     visited = λ n le. meets-the-rest linked-chain n 0 (some 0) refl (omega arith);
     once = linked-chain .once;
+    handedOut = λ k n p. ok .inv .chain .inUse k n (subst (λ (c : List ℕ). At c k n) (sym (h .chain)) p);
     lastLink = λ k n p e. last-link-is-none m g (ok .inv) k n (subst (λ (c : List ℕ). At c k n) (sym (h .chain)) p) (ap length (h .chain) ∙ e);
   }
 
@@ -147,8 +148,8 @@ module _ (m : Machine) (g : Ghost) (ok : Ok m g) (steps : List (List ℕ)) (h : 
     pairing = pairing-stays;
     headWalk = λ a o e is. let there = ok .inv .head .thereInstalled a e in let w = ok .inv .linked .oldTails a o is there in walk-stays-in-the-chain m g (ok .inv) a there o (w .0) (w .1);
     headWalkFromTail = λ a e leads.
-    let there = ok .inv .head .thereInstalled a e in
-    walk-stays-in-the-chain m g (ok .inv) a there (m .ends .tail) (link-leads-means-linked m g (ok .inv) a there leads) (ok .inv .tail .tailAt);
+        let there = ok .inv .head .thereInstalled a e in
+        walk-stays-in-the-chain m g (ok .inv) a there (m .ends .tail) (link-leads-means-linked m g (ok .inv) a there leads) (ok .inv .tail .tailAt);
     contents = λ j n p. (_, is-linked _ _ (each-met-is-in-the-chain m g (ok .inv) j n p));
     notCut = met-fewer-than-followed m g (ok .inv);
   }

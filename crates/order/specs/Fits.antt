@@ -65,24 +65,25 @@ RunFits k (A6 rise x left) = NodeFits x × (0 < left)
 RunFits k (A7 rise x) = NodeFits x × Rises (k .«old_head» .count .0) rise
 RunFits k (A8 t x) = NodeFits x × Rises (t .count .0) 1
 
--- announcements are numbered below 64
-abbrev pub PlaceFits : Machine → Place → Type 0
-PlaceFits m Idle = Unit {0}
-PlaceFits m (Enqueue n x) = EnqueueFits n x
-PlaceFits m (Dequeue x) = DequeueFits x
-PlaceFits m (Batch b x) = b < 64
-PlaceFits m (Dequeues x) = DequeuesFits x
-PlaceFits m (Running a x k) = (a < 64) × RunFits (announcementAt (m .announcements) a .request) x
+-- a deferred enqueue's node is linked behind the last pending one's; announcements are numbered below 64
+abbrev pub PlaceFits : Machine → Row → Place → Type 0
+PlaceFits m r Idle = 0 < r .tally .enqueues → NodeFits (r .last)
+PlaceFits m r (Enqueue n x) = EnqueueFits n x
+PlaceFits m r (Dequeue x) = DequeueFits x
+PlaceFits m r (Batch b x) = b < 64
+PlaceFits m r (Dequeues x) = DequeuesFits x
+PlaceFits m r (Running a x k) = (a < 64) × RunFits (announcementAt (m .announcements) a .request) x
 
--- A row has at most 32 pending calls, each with a future below 512; no count of its tally wraps.
+-- A row has at most 32 pending calls, each with a future below 512, as is the one whose result its call answers; no count of its tally wraps.
 pub record RowFits (r : Row) : Type 0 where
   pub count : r .count ≤ 32
   pub enqueues : r .tally .enqueues ≤ 32
   pub dequeues : r .tally .dequeues ≤ 32
   pub futures : (j : ℕ) → j < r .count → getD (r .pending) j 0 < 512
+  pub asked : r .future < 512
 
 pub record Fits (m : Machine) : Type 0 where
-  pub places : (t : ℕ) → t < 8 → PlaceFits m (rowAt m t .place)
+  pub places : (t : ℕ) → t < 8 → PlaceFits m (rowAt m t) (rowAt m t .place)
   pub rows : (t : ℕ) → t < 8 → RowFits (rowAt m t)
   -- an entry of a thread that is not below this number is refused, and there are 8 rows; of a future not below the number handed out, likewise
   pub threads : m .threads ≤ 8

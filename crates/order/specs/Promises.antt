@@ -112,9 +112,11 @@ linked steps = 0 ∷ together steps
 
 -- THE PROMISES, of a machine m and the link steps taken so far.
 -- Following the links from node 0, however far one goes, visits exactly the linked nodes, each once, and ends at one whose link is none.
+-- Each is one that was handed out; the dummy counts as such.
 pub record OneChain (m : Machine) (steps : List (List ℕ)) : Type 0 where
   pub visited : (n : ℕ) → length (linked steps) ≤ n → following (next (m .links)) n (some 0) ≡ linked steps
   pub once : Once (linked steps)
+  pub handedOut : (k n : ℕ) → At (linked steps) k n → n < m .used .nodes
   pub lastLink : (k n : ℕ) → At (linked steps) k n → length (linked steps) ≡ suc k → cellAt (m .links) n .link ≡ None
 
 -- n is the last of a list
