@@ -3,7 +3,7 @@
 -- a private chain of nodes that are in no chain yet: now it stands beside the chain.
 use Prim.Native.Nat.{ℕ, suc, _%_, _<_}
 use mathlib.Core.Path.{_≡_, refl, sym, ap, _∙_, subst}
-use mathlib.Core.List.{[], _∷_, _++_}
+use mathlib.Core.List.{[], _∷_}
 use mathlib.Core.Option.{some}
 use mathlib.Core.Logic.{_⊎_, inl, inr, ⊎-elim, _≢_}
 use native.Mathlib.Omega.{arith}
@@ -14,7 +14,6 @@ use Rattle.chain.specs.Chain.{Beside}
 use Rattle.chain.proofs.Positions.{one-element, stays, at-the-end, there-or-at-the-end}
 use Rattle.memory.specs.declared.Tail.{Tail}
 use Rattle.memory.specs.declared.Front.{Front}
-use Rattle.memory.specs.declared.Head.{Head}
 use Rattle.memory.specs.declared.Head.the-variants.{Plain, Announced}
 use Rattle.memory.specs.declared.OldTail.{OldTail}
 use Rattle.memory.specs.declared.OldTail.the-variants.{Unset, Set}
@@ -28,7 +27,7 @@ use Rattle.order.proofs.Invariant.{FrontAt, Linked, NotLinked, Shape, T
 use Rattle.order.proofs.Ends.{installed-small}
 use Rattle.order.proofs.Knows.{Mine, MineToo, NotAnnounced, Own, requestOf}
 use Rattle.order.proofs.Grows.{Grows, Spares}
-use Rattle.order.proofs.NothingLinked.{sameChain, link-steps-stay, tail-stays, linked-as-before, was-linked, shape-stays, announcement-small, owned-announcement-small}
+use Rattle.order.proofs.NothingLinked.{link-steps-stay, tail-stays, linked-as-before, was-linked, shape-stays, announcement-small, owned-announcement-small}
 
 -- announcement b laid over front f, before the CAS of the head
 abbrev pub laid : Shared → ℕ → Front → Shared

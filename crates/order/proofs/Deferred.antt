@@ -1,25 +1,22 @@
 -- Deferred calls: FutureEnqueue hands out a node and links it behind the thread's pending ones, FutureDequeue only counts. Both keep the invariant.
-use Prim.Native.Nat.{ℕ, zero, suc, _+_, _%_, _^_, _<_, _≤_}
+use Prim.Native.Nat.{ℕ, suc, _%_, _<_, _≤_}
 use mathlib.Core.Path.{_≡_, refl, sym, ap, _∙_, subst}
 use mathlib.Core.Bool.{Bool, true, false, cond}
 use mathlib.Core.List.{List, [], _∷_, _++_}
-use mathlib.Core.Logic.{inl, inr, ⊎-elim, _≢_}
+use mathlib.Core.Logic.{⊎-elim, _≢_}
 use native.Mathlib.Omega.{arith}
-use native.Mathlib.Nat.{mod-eq-of-lt}
 use lib.Dec.{eqb}
-use lib.ListN.{length, getD, set, length-set, length-append}
+use lib.ListN.{length, set, length-set}
 use lib.Seq.{getD-set-same}
 use borrow.Author.Tests.{eq-eqb, ne-eqb}
-use Rattle.chain.specs.Positions.{at, At}
-use Rattle.chain.proofs.Positions.{none-is-not-some, within, element, there-or-at-the-end, length-one-more, the-only-one, one-element, stays}
+use Rattle.chain.specs.Positions.{At}
+use Rattle.chain.proofs.Positions.{within, element, there-or-at-the-end, length-one-more}
 use Rattle.tally.specs.Fifo.{Call, enqueue, dequeue}
 use Rattle.tally.specs.Excess.{enqueued}
 use Rattle.tally.specs.Tally as tally
 use Rattle.tally.specs.Tally.{tallyOf, with}
 use Rattle.tally.specs.declared.Tally.{Tally}
-use Rattle.memory.specs.declared.Cell.{Cell}
 use Rattle.memory.specs.declared.Link.the-variants.{To}
-use Rattle.memory.specs.Memory.{noCell}
 use Rattle.thread.specs.declared.Place.the-variants.{Idle}
 use Rattle.row.specs.declared.Row.{Row}
 use Rattle.row.specs.Row.{withEnqueue, withDequeue, firstWith}
@@ -27,14 +24,16 @@ use Rattle.call.specs.declared.answer.Item.{Item}
 use Rattle.call.specs.Next.{nextNode, nextFuture}
 use Rattle.machine.specs.declared.Machine.{Machine}
 use Rattle.machine.specs.State.{rowAt}
+use Rattle.machine.specs.HandOut.{handOutNode}
 use Rattle.machine.specs.Entries.{linkedBehind, deferEnqueue, deferDequeue}
 use Rattle.order.specs.Ghost.{Ghost, pendingOf, owns, defers, deferEnqueueGhost, deferDequeueGhost}
-use Rattle.order.proofs.Shared.{Shared, sharedOf}
+use Rattle.order.proofs.Shared.{Shared, sharedOf, withLinks}
+use Rattle.order.proofs.HandedOut.{node-number, node-handed-out}
 use Rattle.order.proofs.Invariant.{Inv}
 use Rattle.order.proofs.Knows.{Private, Pending, Tallied, KnowsAt, Knows}
-use Rattle.order.proofs.Grows.{Grows, Spares, private-stays}
+use Rattle.order.proofs.Grows.{Grows, Spares}
 use Rattle.order.proofs.HandingOutNodes.{nodeHandedOut, linkedTo, new-node-inv, new-node-grows, new-node-spares, first-pending, next-pending-inv, next-pending-grows, next-pending-spares, next-pending}
-use Rattle.order.proofs.Deferring.{deferred-inv, deferred-grows, deferred-spares, deferred-private, deferred-pending}
+use Rattle.order.proofs.Deferring.{deferred-inv, deferred-grows, deferred-spares, deferred-private}
 use Rattle.order.proofs.Together.{grows-then-grows, spares-then-spares}
 use Rattle.order.proofs.Accepted.{tally-one-more}
 use Rattle.order.proofs.Steps.{Ok, put-back, put-back-as}
@@ -106,10 +105,7 @@ module _ (m : Machine) (g : Ghost) (ok : Ok m g) (i : ℕ) (lt : i < 8) (idle : 
     small = omega (arith, ok .sized)
 
     number : nextNode (m .used) ≡ m .used .nodes
-    number = mod-eq-of-lt small
-
-    one-more : tally.up (m .used .nodes) ≡ m .used .nodes + 1
-    one-more = omega arith
+    number = node-number (m .used) small
 
     abbrev g₁ : Ghost
     g₁ = owns g i
@@ -123,23 +119,23 @@ module _ (m : Machine) (g : Ghost) (ok : Ok m g) (i : ℕ) (lt : i < 8) (idle : 
     abbrev after : Shared
     after = sharedOf (deferEnqueue m i v)
 
-    abbrev free : List Cell
-    free = set (m .links) (nextNode (m .used)) noCell
+    -- the node is handed out; then it is linked behind the last pending one, where there is one
+    abbrev out : Shared
+    out = sharedOf (handOutNode m v)
+
+    abbrev linkedIf : Bool → Shared
+    linkedIf b = withLinks out (cond b (out .links) (set (out .links) (rowAt m i .last % 512) (record { link = To (nextNode (m .used)) })))
+
+    shared-is : sharedOf (deferEnqueue m i v) ≡ linkedIf (eqb (rowAt m i .tally .enqueues) 0)
+    unfolding deferEnqueue linkedBehind
+    shared-is = refl
 
     shared-first : rowAt m i .tally .enqueues ≡ 0 → sharedOf (deferEnqueue m i v) ≡ nodeHandedOut (sharedOf m)
-    unfolding deferEnqueue linkedBehind
-    shared-first e =
-        let none : eqb (rowAt m i .tally .enqueues) 0 ≡ true = eq-eqb _ 0 e in
-        let ls = ap (λ (b : Bool). cond b free (set free (rowAt m i .last % 512) (record { link = To (nextNode (m .used)) }))) none in
-        λ k. record { head = m .ends .head; tail = m .ends .tail; links = ls k; announcements = m .announcements; nodes = one-more k; announced = m .used .announcements }
+    shared-first e = shared-is ∙ ap linkedIf (eq-eqb _ 0 e) ∙ node-handed-out m v small
 
     shared-next : rowAt m i .tally .enqueues ≢ 0 → sharedOf (deferEnqueue m i v) ≡ linkedTo (nodeHandedOut (sharedOf m)) (rowAt m i .last) (m .used .nodes)
-    unfolding deferEnqueue linkedBehind
     shared-next ne =
-        let some : eqb (rowAt m i .tally .enqueues) 0 ≡ false = ne-eqb _ 0 ne in
-        let ls = ap (λ (b : Bool). cond b free (set free (rowAt m i .last % 512) (record { link = To (nextNode (m .used)) }))) some
-        ∙ ap (λ (n : ℕ). set free (rowAt m i .last % 512) (record { link = To n })) number in
-        λ k. record { head = m .ends .head; tail = m .ends .tail; links = ls k; announcements = m .announcements; nodes = one-more k; announced = m .used .announcements }
+        shared-is ∙ ap linkedIf (ne-eqb _ 0 ne) ∙ ap (linkedTo out (rowAt m i .last)) number ∙ ap (λ (x : Shared). linkedTo x (rowAt m i .last) (m .used .nodes)) (node-handed-out m v small)
 
     row-tallied : Tallied g₂ i row
     row-tallied =

@@ -1,16 +1,16 @@
 -- A thread's pending calls change and nothing else: nothing that is shared speaks of them.
 use Prim.Native.Nat.{ℕ, _<_}
-use mathlib.Core.Path.{_≡_, refl, sym, ap, _∙_}
+use mathlib.Core.Path.{_≡_, refl}
 use mathlib.Core.List.{List, []}
 use mathlib.Core.Logic.{inl, _≢_}
 use native.Mathlib.Omega.{arith}
-use lib.ListN.{length, set, length-set}
+use lib.ListN.{length}
 use lib.Seq.{getD-set-same, getD-set-other}
 use Rattle.tally.specs.Fifo.{Call}
 use Rattle.order.specs.Ghost.{Ghost, pendingOf, defers}
 use Rattle.order.proofs.Shared.{Shared}
-use Rattle.order.proofs.Invariant.{Linked, Shape, Inv}
-use Rattle.order.proofs.Knows.{Mine, MineToo, Private}
+use Rattle.order.proofs.Invariant.{Linked, Inv}
+use Rattle.order.proofs.Knows.{Mine, Private}
 use Rattle.order.proofs.Grows.{Grows, Spares}
 
 module _ (s : Shared) (g : Ghost) (t : ℕ) (cs : List (Call ℕ)) where

@@ -1,12 +1,11 @@
 -- Dequeue, d1 to d3, and a batch of dequeues only, q1 to q3: they read along the chain and move the head to a node of it.
-use Prim.Native.Nat.{ℕ, suc, _+_, _%_, _^_, _<_}
-use mathlib.Core.Path.{_≡_, refl, sym, ap, _∙_, subst}
+use Prim.Native.Nat.{ℕ, suc, _+_}
+use mathlib.Core.Path.{_≡_, refl, sym, subst}
 use mathlib.Core.Bool.{Bool, true, false, cond}
 use native.Mathlib.Omega.{arith}
 use lib.Dec.{eqb, ltb}
-use lib.ListN.{length}
 use borrow.Author.Tests.{eqb-true}
-use Rattle.chain.specs.Positions.{At, In}
+use Rattle.chain.specs.Positions.{At}
 use Rattle.chain.proofs.Positions.{within}
 use Rattle.memory.specs.declared.Front.{Front}
 use Rattle.memory.specs.declared.Head.{Head}
@@ -16,14 +15,13 @@ use Rattle.memory.specs.declared.Link.the-variants.{None, To}
 use Rattle.memory.specs.declared.Found.the-variants as found
 use Rattle.memory.specs.Ends.{up, pastFront, sameHead}
 use Rattle.memory.specs.Memory.{cellAt, perform}
-use Rattle.thread.specs.declared.After.{After}
 use Rattle.thread.specs.declared.dequeue.DequeueStep.{DequeueStep}
 use Rattle.thread.specs.declared.dequeue.DequeueStep.the-variants.{D1, D2, D3}
 use Rattle.thread.specs.declared.dequeues.Walk.{Walk}
 use Rattle.thread.specs.declared.dequeues.DequeuesStep.{DequeuesStep}
 use Rattle.thread.specs.declared.dequeues.DequeuesStep.the-variants.{Q1, Q2, Q3}
 use Rattle.thread.specs.Dequeue.{dequeueAccess, dequeueAfter, afterD1, afterD2, afterD3}
-use Rattle.thread.specs.Dequeues.{dequeuesAccess, dequeuesAfter, afterQ1, afterQ2, afterQ3, stopped, goesTo, oneFurther, dequeuesAt}
+use Rattle.thread.specs.Dequeues.{dequeuesAccess, dequeuesAfter, afterQ1, afterQ2, afterQ3, oneFurther, dequeuesAt}
 use Rattle.thread.specs.declared.After.the-variants as afterwards
 use Rattle.row.specs.declared.Row.{Row}
 use Rattle.order.specs.Ghost.{Ghost}

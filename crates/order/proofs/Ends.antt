@@ -1,7 +1,6 @@
 -- The positions at which link steps end rise, and no position is as large as the count of nodes: so no count ever wraps.
-use Prim.Native.Nat.{ℕ, suc, _+_, _%_, _^_, _<_, _≤_}
-use mathlib.Core.Path.{_≡_, refl}
-use mathlib.Core.Option.{some}
+use Prim.Native.Nat.{ℕ, _+_, _^_, _<_, _≤_}
+use mathlib.Core.Path.{_≡_}
 use native.Mathlib.Omega.{arith}
 use native.Mathlib.Decide.{ℕ-discrete, decLt}
 use lib.ListN.{length}

@@ -1,16 +1,14 @@
 -- Enqueue, e1 to e5: each step keeps the invariant. e2 is a link step of one node; behind a tail that has a next node stands a single enqueue's
 -- node or a batch, and where the head is plain a batch there has been passed by the tail: so e5 moves it over one link step, or is not taken.
-use Prim.Native.Nat.{ℕ, zero, suc, _+_, _<_, _≤_}
+use Prim.Native.Nat.{ℕ, zero, suc, _+_, _<_}
 use mathlib.Core.Path.{_≡_, refl, sym, ap, _∙_, subst}
-use mathlib.Core.Bool.{Bool}
-use mathlib.Core.List.{List, [], _∷_, _++_}
+use mathlib.Core.List.{[], _∷_, _++_}
 use mathlib.Core.Option.{Option, none, some}
 use mathlib.Core.Logic.{_⊎_, inl, inr, ⊎-elim, _≢_}
 use native.Mathlib.Omega.{arith}
 use native.Mathlib.Decide.{decLt}
 use lib.ListN.{length}
 use Rattle.chain.specs.Positions.{at, At, In}
-use Rattle.chain.specs.Chain.{Chain, Beside}
 use Rattle.chain.proofs.Positions.{none-is-not-some, some-injective, one-element, within, element, stays, at-the-end, the-only-one}
 use Rattle.memory.specs.declared.Tail.{Tail}
 use Rattle.memory.specs.declared.Front.{Front}
@@ -22,15 +20,12 @@ use Rattle.memory.specs.declared.Found.the-variants as found
 use Rattle.memory.specs.Ends.{pastTail, sameTail}
 use Rattle.memory.specs.Memory.{cellAt, linkCas, perform}
 use Rattle.memory.specs.Found.{linkIn}
-use Rattle.thread.specs.declared.Place.the-variants as place
-use Rattle.thread.specs.declared.Resume.the-variants as resume
 use Rattle.thread.specs.declared.After.the-variants as afterwards
 use Rattle.thread.specs.declared.enqueue.EnqueueStep.{EnqueueStep}
 use Rattle.thread.specs.declared.enqueue.EnqueueStep.the-variants.{E1, E2, E3, E4, E5}
-use Rattle.thread.specs.declared.running.RunStep.the-variants.{A1}
 use Rattle.thread.specs.Enqueue.{enqueueAccess, enqueueAfter, afterE2, afterE4, enqueueAt}
 use Rattle.row.specs.declared.Row.{Row}
-use Rattle.order.specs.Ghost.{Ghost, Batch, joins, ifFree, enqueueGhost}
+use Rattle.order.specs.Ghost.{Ghost, joins, ifFree, enqueueGhost}
 use Rattle.order.proofs.Shared.{Shared, next, led, linked, withLinks}
 use Rattle.order.proofs.Invariant.{Inv}
 use Rattle.order.proofs.Knows.{Mine, Single, TailRead, SingleBehind, OneFurther, KnowsEnqueue, Alone}

@@ -1,19 +1,16 @@
 -- Every entry keeps the invariant: a refused one changes nothing, an accepted one starts or defers a call, or takes steps.
-use Prim.Native.Nat.{ℕ, zero, suc, _+_, _%_, _<_}
+use Prim.Native.Nat.{ℕ, zero, suc, _%_, _<_}
 use mathlib.Core.Path.{_≡_, refl, sym, ap, _∙_, subst}
 use mathlib.Core.Bool.{Bool, true, false, not, cond}
 use mathlib.Core.List.{List, [], _∷_}
 use mathlib.Core.Logic.{_≢_}
 use native.Mathlib.Omega.{arith}
-use native.Mathlib.Nat.{mod-eq-of-lt}
 use lib.Dec.{eqb}
-use lib.ListN.{length, getD, set}
+use lib.ListN.{length, getD}
 use lib.Seq.{getD-set-same}
 use borrow.Author.Tests.{eqb-true, eqb-false, ne-eqb}
 use Rattle.refusal.specs.declared.Refusal.the-variants.{NotOwnFuture}
 use Rattle.tally.specs.Fifo.{Call}
-use Rattle.tally.specs.Tally as tally
-use Rattle.memory.specs.Memory.{noCell}
 use Rattle.thread.specs.declared.Place.{Place}
 use Rattle.thread.specs.declared.Place.the-variants as place
 use Rattle.thread.specs.declared.Place.the-variants.{Idle}
@@ -43,6 +40,7 @@ use Rattle.order.proofs.Shared.{sharedOf}
 use Rattle.order.proofs.Knows.{Single, Tallied, Alone}
 use Rattle.order.proofs.TailMoves.{quiet, spared}
 use Rattle.order.proofs.HandingOutNodes.{nodeHandedOut, new-node-inv, new-node-grows, new-node-spares, new-node-single}
+use Rattle.order.proofs.HandedOut.{node-number, node-handed-out}
 use Rattle.order.proofs.Steps.{Ok, put-back, put-back-as}
 use Rattle.order.proofs.MachineSteps.{step-keeps}
 use Rattle.order.proofs.Accepted.{Left, callable-is-idle, nothing-lacks, call-accepted}
@@ -74,20 +72,15 @@ module _ (m : Machine) (g : Ghost) (ok : Ok m g) (i : ℕ) (lt : i < 8) (idle : 
   single-enqueue : (v : Item) → rowAt m i .count ≡ 0 → m .used .nodes < m .nodes
       → Ok (withRow (handOutNode m v) i (placed (rowAt m i) (place.Enqueue (nextNode (m .used)) E1))) (owns g i)
   single-enqueue v none left =
-      put-back-as m g ok i lt _ (owns g i) (nodeHandedOut (sharedOf m)) shared-is (placed (rowAt m i) (place.Enqueue (nextNode (m .used)) E1)) refl refl refl
+      put-back-as m g ok i lt _ (owns g i) (nodeHandedOut (sharedOf m)) (node-handed-out m v small) (placed (rowAt m i) (place.Enqueue (nextNode (m .used)) E1)) refl refl refl
       (new-node-inv (sharedOf m) g (ok .inv) i small) (new-node-grows (sharedOf m) g (ok .inv) i small) (λ u ne. new-node-spares (sharedOf m) g (ok .inv) i small u)
       (record {
         tallied = let w = ok .knows i lt .tallied in record { tally = w .tally; count = w .count; few = w .few };
-        place = (subst (Single (nodeHandedOut (sharedOf m)) (owns g i) i) (sym (mod-eq-of-lt small)) (new-node-single (sharedOf m) g (ok .inv) i small), alone none);
+        place = (subst (Single (nodeHandedOut (sharedOf m)) (owns g i) i) (sym (node-number (m .used) small)) (new-node-single (sharedOf m) g (ok .inv) i small), alone none);
       })
     where
       small : m .used .nodes < 512
       small = omega (arith, ok .sized)
-
-      shared-is : sharedOf (handOutNode m v) ≡ nodeHandedOut (sharedOf m)
-      shared-is =
-          let up : tally.up (m .used .nodes) ≡ m .used .nodes + 1 = omega arith in
-          λ k. record { head = m .ends .head; tail = m .ends .tail; links = set (m .links) (nextNode (m .used)) noCell; announcements = m .announcements; nodes = up k; announced = m .used .announcements }
 
   -- Dequeue with nothing pending
   single-dequeue : rowAt m i .count ≡ 0 → Ok (withRow m i (placed (rowAt m i) (place.Dequeue D1))) g

@@ -13,7 +13,6 @@ use Rattle.memory.specs.declared.Found.the-variants as found
 use Rattle.memory.specs.Ends.{pastTail, sameTail, sameHead}
 use Rattle.memory.specs.Memory.{Memory, Performed, reads, tailCas, headCas}
 use Rattle.memory.specs.Found.{takenIn}
-use Rattle.thread.specs.declared.Place.{Place}
 use Rattle.thread.specs.declared.After.{After}
 use Rattle.thread.specs.declared.After.the-variants as afterwards
 use Rattle.row.specs.declared.Row.{Row}

@@ -6,6 +6,7 @@ use mathlib.Core.Bool.{Bool}
 use mathlib.Core.List.{List, [], _∷_, _++_}
 use mathlib.Core.Logic.{⊎-elim, _≢_}
 use native.Mathlib.Omega.{arith}
+use native.Mathlib.Nat.{mod-eq-of-lt}
 use native.Mathlib.Decide.{ℕ-discrete}
 use lib.ListN.{length, getD, set, length-set}
 use lib.Seq.{getD-set-same, getD-set-other}
@@ -23,6 +24,7 @@ use Rattle.call.specs.Next.{nextFuture}
 use Rattle.machine.specs.declared.Machine.{Machine}
 use Rattle.machine.specs.State.{rowAt, noFuture}
 use Rattle.machine.specs.Pairing.{pairFrom}
+use Rattle.laws.proofs.HandedOut.{futures-in-order}
 use Rattle.order.specs.Ghost.{Ghost, pendingOf}
 use Rattle.order.proofs.Steps.{Ok}
 use Rattle.order.proofs.PairingCounts.{isEnqueue, flags-stay}
@@ -83,43 +85,43 @@ put-flags m g h rows i lt m′ g′ row put others carries mine asks = record {
         subst (λ (r : Row). FlagsOf (m′ .futures) (m′ .used .futures) (r .pending) (pendingOf g′ t)) (sym (elsewhere-is t ne))
         (subst (FlagsOf (m′ .futures) (m′ .used .futures) (rowAt m t .pending)) (sym (others t ne)) (carried carries (h .each t lt′)))
 
--- one more future is handed out, and one more call is pending
-one-more-future : (fs : List Future) (used : ℕ) (x : Future) → used < 512 → Carries fs used (set fs (used % 512) x) (up used)
-one-more-future fs used x left = record {
-  more = omega arith;
-  same = λ k h. ap (λ (f : Future). f .enqueue) (getD-set-other fs (used % 512) (k % 512) x noFuture (λ e. omega arith));
-  long = length-set fs (used % 512) x;
-  room = λ h. omega arith;
-}
+-- one more future is handed out, the one after those handed out before, and one more call is pending
+module _ (fs : List Future) (used : ℕ) (x : Future) (left : used < 512) where
+  one-more-future : Carries fs used (set fs used x) (suc used)
+  one-more-future = record {
+    more = omega arith;
+    same = λ k h. ap (λ (f : Future). f .enqueue) (getD-set-other fs used (k % 512) x noFuture (λ e. omega arith));
+    long = length-set fs used x;
+    room = λ h. omega arith;
+  }
 
-one-more-flag : (fs : List Future) (used : ℕ) (pending : List ℕ) (cs : List (Call ℕ)) → FlagsOf fs used pending cs → length fs ≡ 512 → used < 512
-    → (count : ℕ) → count ≡ length cs → count < 32 → (c : Call ℕ) (x : Future) → x .enqueue ≡ isEnqueue c
-    → FlagsOf (set fs (used % 512) x) (up used) (set pending (count % 32) (used % 512)) (cs ++ (c ∷ []))
-one-more-flag fs used pending cs h long left count counted few c x is = record {
-  places = length-set pending (count % 32) (used % 512) ∙ h .places;
-  handedOut = λ j y p. ⊎-elim (λ w. omega (arith, earlier j y w, h .handedOut j y w)) (λ w. omega (arith, new j (w .0))) (there-or-at-the-end cs c j p);
-  flagged = λ j y p. ⊎-elim
-      (λ w. ap flag (earlier j y w) ∙ one-more-future fs used x left .same (getD pending j 0) (h .handedOut j y w) ∙ h .flagged j y w)
-      (λ w. ap flag (new j (w .0)) ∙ ap (λ (k : ℕ). getD after k noFuture .enqueue) twice ∙ ap (λ (f : Future). f .enqueue) (getD-set-same fs (used % 512) x noFuture (omega (arith, long))) ∙ is ∙ sym (ap isEnqueue (w .1)))
-      (there-or-at-the-end cs c j p);
-}
-  where
-    after : List Future
-    after = set fs (used % 512) x
+  module _ (pending : List ℕ) (cs : List (Call ℕ)) (h : FlagsOf fs used pending cs) (long : length fs ≡ 512) (count : ℕ) (counted : count ≡ length cs) (few : count < 32)
+      (c : Call ℕ) (is : x .enqueue ≡ isEnqueue c) where
+    earlier : (j : ℕ) (y : Call ℕ) → At cs j y → getD (set pending (count % 32) used) j 0 ≡ getD pending j 0
+    earlier j y p = getD-set-other pending (count % 32) j used 0 (λ e. omega (arith, within cs j p, counted))
 
-    flag : ℕ → Bool
-    flag k = getD (set fs (used % 512) x) (k % 512) noFuture .enqueue
-
-    twice : used % 512 % 512 ≡ used % 512
-    twice = omega arith
-
-    earlier : (j : ℕ) (y : Call ℕ) → At cs j y → getD (set pending (count % 32) (used % 512)) j 0 ≡ getD pending j 0
-    earlier j y p = getD-set-other pending (count % 32) j (used % 512) 0 (λ e. omega (arith, within cs j p, counted))
-
-    new : (j : ℕ) → j ≡ length cs → getD (set pending (count % 32) (used % 512)) j 0 ≡ used % 512
+    new : (j : ℕ) → j ≡ length cs → getD (set pending (count % 32) used) j 0 ≡ used
     new j e =
-        ap (λ (k : ℕ). getD (set pending (count % 32) (used % 512)) k 0) (let q : j ≡ count % 32 = omega (arith, e, counted) in q)
-        ∙ getD-set-same pending (count % 32) (used % 512) 0 (omega (arith, h .places))
+        ap (λ (k : ℕ). getD (set pending (count % 32) used) k 0) (let q : j ≡ count % 32 = omega (arith, e, counted) in q)
+        ∙ getD-set-same pending (count % 32) used 0 (omega (arith, h .places))
+
+    abbrev flag : ℕ → Bool
+    flag k = getD (set fs used x) (k % 512) noFuture .enqueue
+
+    new-flag : flag used ≡ isEnqueue c
+    new-flag =
+        ap (λ (k : ℕ). getD (set fs used x) k noFuture .enqueue) (mod-eq-of-lt left)
+        ∙ ap (λ (f : Future). f .enqueue) (getD-set-same fs used x noFuture (omega (arith, long))) ∙ is
+
+    one-more-flag : FlagsOf (set fs used x) (suc used) (set pending (count % 32) used) (cs ++ (c ∷ []))
+    one-more-flag = record {
+      places = length-set pending (count % 32) used ∙ h .places;
+      handedOut = λ j y p. ⊎-elim (λ w. omega (arith, earlier j y w, h .handedOut j y w)) (λ w. omega (arith, new j (w .0))) (there-or-at-the-end cs c j p);
+      flagged = λ j y p. ⊎-elim
+          (λ w. ap flag (earlier j y w) ∙ one-more-future .same (getD pending j 0) (h .handedOut j y w) ∙ h .flagged j y w)
+          (λ w. ap flag (new j (w .0)) ∙ new-flag ∙ sym (ap isEnqueue (w .1)))
+          (there-or-at-the-end cs c j p);
+    }
 
 -- pairing keeps the flags
 pub pair-keeps : (n : ℕ) (links : List Cell) (items : List Item) (last : ℕ) (pending : List ℕ) (k : ℕ) (fs : List Future) (c : Cursor)
@@ -153,14 +155,29 @@ module _ (m : Machine) (g : Ghost) (ok : Ok m g) (h : Flags m g) (i : ℕ) (lt :
       → m′ .futures ≡ set (m .futures) (nextFuture (m .used)) x → m′ .used .futures ≡ up (m .used .futures) → g′ .pending ≡ set (g .pending) i (pendingOf g i ++ (c ∷ [])) → Flags m′ g′
   deferred c x is left few m′ g′ row put pending same fs used calls =
       put-flags m g h (ok .rows) i lt m′ g′ row put (λ u ne. ap (λ (l : List (List (Call ℕ))). getD l u []) calls ∙ getD-set-other (g .pending) i u _ [] ne)
-      (subst (λ (l : List Future). Carries (m .futures) (m .used .futures) l (m′ .used .futures)) (sym fs)
-      (subst (Carries (m .futures) (m .used .futures) (set (m .futures) (nextFuture (m .used)) x)) (sym used) (one-more-future (m .futures) (m .used .futures) x left)))
-      (subst (λ (l : List Future). FlagsOf l (m′ .used .futures) (row .pending) (pendingOf g′ i)) (sym fs)
-      (subst (λ (u : ℕ). FlagsOf (set (m .futures) (nextFuture (m .used)) x) u (row .pending) (pendingOf g′ i)) (sym used)
-      (subst (λ (l : List ℕ). FlagsOf (set (m .futures) (nextFuture (m .used)) x) (up (m .used .futures)) l (pendingOf g′ i)) (sym pending)
-      (subst (FlagsOf (set (m .futures) (nextFuture (m .used)) x) (up (m .used .futures)) _) (sym cs-is)
-      (one-more-flag (m .futures) (m .used .futures) (rowAt m i .pending) (pendingOf g i) (h .each i lt) (h .futures) left (rowAt m i .count) (ok .knows i lt .tallied .count) few c x is)))))
+      (subst (λ (l : List Future). Carries (m .futures) old l (m′ .used .futures)) (sym fs-are)
+      (subst (Carries (m .futures) old (set (m .futures) old x)) (sym used-is) (one-more-future (m .futures) old x left)))
+      (subst (λ (l : List Future). FlagsOf l (m′ .used .futures) (row .pending) (pendingOf g′ i)) (sym fs-are)
+      (subst (λ (u : ℕ). FlagsOf (set (m .futures) old x) u (row .pending) (pendingOf g′ i)) (sym used-is)
+      (subst (λ (l : List ℕ). FlagsOf (set (m .futures) old x) (suc old) l (pendingOf g′ i)) (sym pending-is)
+      (subst (FlagsOf (set (m .futures) old x) (suc old) _) (sym cs-is)
+      (one-more-flag (m .futures) old x left (rowAt m i .pending) (pendingOf g i) (h .each i lt) (h .futures) (rowAt m i .count) (ok .knows i lt .tallied .count) few c is)))))
       (subst (λ (f : ℕ). f < 512) (sym same) (h .asked i lt))
     where
+      old : ℕ
+      old = m .used .futures
+
+      number : nextFuture (m .used) ≡ m .used .futures
+      number = futures-in-order (m .used) left .0
+
+      used-is : m′ .used .futures ≡ suc (m .used .futures)
+      used-is = used ∙ futures-in-order (m .used) left .1
+
+      fs-are : m′ .futures ≡ set (m .futures) (m .used .futures) x
+      fs-are = fs ∙ ap (λ (k : ℕ). set (m .futures) k x) number
+
+      pending-is : row .pending ≡ set (rowAt m i .pending) (rowAt m i .count % 32) (m .used .futures)
+      pending-is = pending ∙ ap (set (rowAt m i .pending) (rowAt m i .count % 32)) number
+
       cs-is : pendingOf g′ i ≡ pendingOf g i ++ (c ∷ [])
       cs-is = ap (λ (l : List (List (Call ℕ))). getD l i []) calls ∙ getD-set-same (g .pending) i _ [] (omega (arith, ok .pendings))

@@ -1,9 +1,9 @@
 -- What a thread may rely on while others take steps, and that what it knows stays true: the chain grows at its end, the tail does not go back,
 -- an installed announcement keeps its request and an old tail that is set; and its own nodes and announcement are left alone.
-use Prim.Native.Nat.{ℕ, suc, _+_, _<_, _≤_}
+use Prim.Native.Nat.{ℕ, suc, _≤_}
 use mathlib.Core.Path.{_≡_, refl, sym, ap, _∙_, subst}
 use mathlib.Core.List.{List}
-use mathlib.Core.Option.{Option, none, some}
+use mathlib.Core.Option.{Option}
 use mathlib.Core.Logic.{_⊎_, inl, inr, ⊎-elim}
 use native.Mathlib.Omega.{arith}
 use lib.ListN.{length}
@@ -34,7 +34,7 @@ use Rattle.row.specs.declared.Row.{Row}
 use Rattle.order.specs.Ghost as ghost
 use Rattle.order.specs.Ghost.{Ghost, pendingOf}
 use Rattle.order.proofs.Shared.{Shared, next}
-use Rattle.order.proofs.Invariant.{TailAt, FrontAt, Linked}
+use Rattle.order.proofs.Invariant.{Linked}
 use Rattle.order.proofs.Knows.{Mine, Single, Private, MineToo, NotAnnounced, TailRead, SingleBehind, OneFurther, Past, requestOf, risesBy, goal, KnowsRun, Pending, Tallied, Own, KnowsEnqueue, KnowsDequeue, KnowsBatch, KnowsDequeues, KnowsResume, KnowsAt, Knows}
 
 -- what anybody may rely on

@@ -2,7 +2,7 @@
 -- what the batch asks for and no old tail, and the other announcements stay as they are.
 use Prim.Native.Nat.{ℕ, suc, _+_, _%_, _<_}
 use mathlib.Core.Path.{_≡_, refl, sym, ap, _∙_, subst}
-use mathlib.Core.List.{[], _∷_, _++_}
+use mathlib.Core.List.{[], _∷_}
 use mathlib.Core.Logic.{_⊎_, inl, inr}
 use native.Mathlib.Omega.{arith}
 use lib.ListN.{length, length-set}
@@ -17,7 +17,7 @@ use Rattle.order.proofs.Shared.{Shared, announcing, announcement-set, o
 use Rattle.order.proofs.Invariant.{FrontAt, Shape, Asks, Inv}
 use Rattle.order.proofs.Knows.{Mine, Private, NotAnnounced, requestOf}
 use Rattle.order.proofs.Grows.{Grows, Spares}
-use Rattle.order.proofs.NothingLinked.{sameChain, link-steps-stay, tail-stays, linked-as-before, was-linked, shape-stays, owned-node-handed-out, announcement-handed-out, owned-announcement-handed-out}
+use Rattle.order.proofs.NothingLinked.{link-steps-stay, tail-stays, linked-as-before, was-linked, shape-stays, owned-node-handed-out, announcement-handed-out, owned-announcement-handed-out}
 
 abbrev pub asking : Request → Announcement
 asking k = record { request = k; «old_tail» = Unset }

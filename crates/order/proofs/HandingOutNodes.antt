@@ -18,7 +18,7 @@ use Rattle.order.proofs.Invariant.{Inv}
 use Rattle.order.proofs.Ends.{node-small}
 use Rattle.order.proofs.Knows.{Mine, Single, Private}
 use Rattle.order.proofs.Grows.{Grows, Spares}
-use Rattle.order.proofs.NothingLinked.{sameChain, link-steps-stay, tail-stays, linked-as-before, was-linked, shape-stays, owned-node-handed-out, owned-node-small}
+use Rattle.order.proofs.NothingLinked.{link-steps-stay, tail-stays, linked-as-before, was-linked, shape-stays, owned-node-handed-out, owned-node-small}
 
 -- the next node, without a link
 abbrev pub nodeHandedOut : Shared → Shared

@@ -2,17 +2,14 @@
 use Prim.Native.Nat.{ℕ, suc, _+_, _<_, _≤_}
 use mathlib.Core.Path.{_≡_}
 use mathlib.Core.List.{List, []}
-use mathlib.Core.Option.{Option, none, some}
+use mathlib.Core.Option.{none}
 use mathlib.Core.Logic.{_⊎_}
 use lib.ListN.{length}
 use Rattle.chain.specs.Positions.{at, At, In}
 use Rattle.chain.specs.Chain.{Chain}
-use Rattle.tally.specs.Fifo.{Call}
 use Rattle.tally.specs.Tally.{tallyOf, successfulOn}
 use Rattle.memory.specs.declared.Tail.{Tail}
-use Rattle.memory.specs.declared.Front.{Front}
 use Rattle.memory.specs.declared.OldTail.the-variants.{Unset, Set}
-use Rattle.memory.specs.declared.Announcement.{Announcement}
 use Rattle.memory.specs.declared.Request.{Request}
 use Rattle.memory.specs.Memory.{announcementAt}
 use Rattle.thread.specs.declared.Place.{Place}

@@ -11,6 +11,7 @@ pub mod NothingLinked
 pub mod Announcing
 pub mod HandingOutNodes
 pub mod HandingOutAnnouncements
+pub mod HandedOut
 pub mod Fine
 pub mod EnqueueSteps
 pub mod RunReads

@@ -1,28 +1,26 @@
 -- A link step (a taken e2 or a3): nodes that are a chain of their own are linked behind the last node, and everything stays as the invariant has it.
 -- The tail that was read is the last node, since its link is none; so the tail has not moved, and after the step it is one link step behind.
-use Prim.Native.Nat.{ℕ, zero, suc, _+_, _-_, _<_, _≤_}
+use Prim.Native.Nat.{ℕ, suc, _+_, _-_, _<_, _≤_}
 use mathlib.Core.Path.{_≡_, refl, sym, ap, _∙_, subst}
 use mathlib.Core.List.{List, [], _∷_, _++_}
 use mathlib.Core.Option.{Option, none, some}
 use mathlib.Core.Logic.{_⊎_, inl, inr, ⊎-elim, _≢_}
 use native.Mathlib.Omega.{arith}
 use native.Mathlib.Decide.{decLt}
-use native.Mathlib.Nat.{mod-eq-of-lt}
 use lib.ListN.{length, length-set, length-append}
 use Rattle.chain.specs.Positions.{at, At, In}
-use Rattle.chain.specs.Chain.{Chain, Beside}
-use Rattle.chain.proofs.Positions.{none-is-not-some, within, element, at-right, at-the-end, stays, in-either, there-or-at-the-end, length-one-more}
+use Rattle.chain.specs.Chain.{Beside}
+use Rattle.chain.proofs.Positions.{within, element, at-right, at-the-end, stays, in-either, there-or-at-the-end, length-one-more}
 use Rattle.chain.proofs.Following.{none-is-the-last}
 use Rattle.chain.proofs.Joining.{joined, stays-beside}
 use Rattle.memory.specs.declared.Tail.{Tail}
 use Rattle.memory.specs.declared.Head.the-variants.{Announced}
-use Rattle.memory.specs.declared.Cell.{Cell}
 use Rattle.memory.specs.declared.Link.the-variants.{To}
 use Rattle.memory.specs.declared.Announcement.{Announcement}
 use Rattle.memory.specs.Memory.{announcementAt}
 use Rattle.order.specs.Ghost.{Ghost, Batch, joins}
 use Rattle.order.proofs.Shared.{Shared, next, linked, withLinks, next-of-linked, next-of-others}
-use Rattle.order.proofs.Invariant.{TailAt, Linked, NotLinked, InvChain, InvEnds, InvTail, Shape, InvLinked, InvHead, Asks, InvBatches, Inv}
+use Rattle.order.proofs.Invariant.{NotLinked, InvChain, InvEnds, InvTail, Shape, InvLinked, InvHead, Asks, Inv}
 use Rattle.order.proofs.Ends.{node-small}
 use Rattle.order.proofs.Knows.{Mine, TailRead}
 use Rattle.order.proofs.Grows.{Grows, Spares}

@@ -1,17 +1,14 @@
 -- A step of the machine, with what the end of a call tells, keeps the invariant.
-use Prim.Native.Nat.{ℕ, zero, suc, _<_, _≤_}
+use Prim.Native.Nat.{ℕ, _<_}
 use mathlib.Core.Path.{_≡_, refl, sym, ap, _∙_, subst}
-use mathlib.Core.Bool.{Bool, true, false, cond}
 use mathlib.Core.List.{List, []}
 use mathlib.Core.Logic.{_≢_}
 use native.Mathlib.Omega.{arith}
 use lib.ListN.{length, getD, set, length-set}
 use lib.Seq.{set-set}
-use Rattle.chain.specs.Positions.{at}
 use Rattle.tally.specs.Fifo.{Call}
 use Rattle.tally.specs.Excess.{enqueued, dequeues, excess}
 use Rattle.tally.specs.Tally.{tallyOf, nothingPending}
-use Rattle.tally.specs.declared.Tally.{Tally}
 use Rattle.tally.proofs.Counts.{excess-nil}
 use Rattle.thread.specs.declared.Place.{Place}
 use Rattle.thread.specs.declared.Place.the-variants.{Idle}
@@ -24,11 +21,11 @@ use Rattle.call.specs.declared.pairing.Cursor.{Cursor}
 use Rattle.machine.specs.declared.Machine.{Machine}
 use Rattle.machine.specs.State.{rowAt, memoryOf}
 use Rattle.machine.specs.Pairing.{pairing, settled}
-use Rattle.machine.specs.Steps.{accessed, hop, tell, stepOf, isMore, oneMore, advance}
+use Rattle.machine.specs.Steps.{accessed, hop, tell, stepOf}
 use Rattle.order.specs.Ghost.{Ghost, pendingOf, stepGhost, defers, endGhost}
-use Rattle.order.proofs.Shared.{Shared, sharedOf}
+use Rattle.order.proofs.Shared.{sharedOf}
 use Rattle.order.proofs.Invariant.{Inv}
-use Rattle.order.proofs.Knows.{Tallied, Alone, Knows}
+use Rattle.order.proofs.Knows.{Tallied, Alone}
 use Rattle.order.proofs.Grows.{Grows, Spares}
 use Rattle.order.proofs.Fine.{Fine, KnowsAfter}
 use Rattle.order.proofs.Deferring.{deferred-inv, deferred-grows, deferred-spares, deferred-pending}

@@ -10,11 +10,11 @@ use native.Mathlib.Omega.{arith}
 use native.Mathlib.Decide.{ℕ-discrete}
 use lib.Dec.{eqb, ltb, leb}
 use lib.ListN.{length}
-use borrow.Author.Tests.{eqb-true, eqb-false, ltb-true, ltb-false, leb-true, leb-false}
+use borrow.Author.Tests.{eqb-true, eqb-false, ltb-false, leb-true, leb-false}
 use Rattle.chain.specs.Positions.{at, At, In}
 use Rattle.chain.proofs.Positions.{none-is-not-some, some-injective, one-element, within, element}
 use Rattle.chain.proofs.Following.{none-is-the-last}
-use Rattle.tally.specs.Tally.{tallyOf, successfulOn}
+use Rattle.tally.specs.Tally.{successfulOn}
 use Rattle.tally.proofs.Counts.{successful-le-present}
 use Rattle.tally.specs.declared.Tally.{Tally}
 use Rattle.memory.specs.declared.Tail.{Tail}
@@ -25,14 +25,13 @@ use Rattle.memory.specs.declared.OldTail.{OldTail}
 use Rattle.memory.specs.declared.OldTail.the-variants.{Unset, Set}
 use Rattle.memory.specs.declared.Request.{Request}
 use Rattle.memory.specs.Memory.{cellAt, announcementAt}
-use Rattle.thread.specs.declared.running.RunStep.{RunStep}
-use Rattle.thread.specs.declared.running.RunStep.the-variants.{A1, A2, A3, A4, A5, A6, A7, A8}
-use Rattle.thread.specs.Running.{afterA2, afterA6, sizeAt, walkBy, walkTo}
+use Rattle.thread.specs.declared.running.RunStep.the-variants.{A2, A3, A6, A7}
+use Rattle.thread.specs.Running.{afterA2, afterA6, sizeAt, walkTo}
 use Rattle.row.specs.declared.Row.{Row}
 use Rattle.order.specs.Ghost.{Ghost, Batch}
 use Rattle.order.proofs.Shared.{Shared, next, led}
 use Rattle.order.proofs.Invariant.{Linked, NotLinked, Inv}
-use Rattle.order.proofs.Knows.{TailRead, SingleBehind, OneFurther, Past, requestOf, risesBy, goal, KnowsRun}
+use Rattle.order.proofs.Knows.{OneFurther, Past, requestOf, risesBy, goal, KnowsRun}
 use Rattle.order.proofs.EnqueueSteps.{tail-now, found-behind, step-behind}
 
 -- whether an announcement's batch is linked

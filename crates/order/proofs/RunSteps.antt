@@ -4,13 +4,12 @@ use Prim.Native.Nat.{ℕ, suc, _+_, _≤_}
 use mathlib.Core.Path.{_≡_, refl, sym, ap, _∙_, subst}
 use mathlib.Core.Bool.{Bool, true, false, cond}
 use mathlib.Core.List.{List, [], _∷_, _++_}
-use mathlib.Core.Option.{Option, none, some}
-use mathlib.Core.Logic.{_⊎_, inl, inr, ⊎-elim, _≢_}
+use mathlib.Core.Option.{none, some}
+use mathlib.Core.Logic.{⊎-elim}
 use native.Mathlib.Omega.{arith}
 use lib.Dec.{eqb}
-use lib.ListN.{length}
 use borrow.Author.Tests.{eqb-true, eqb-false}
-use Rattle.chain.specs.Positions.{at, At, In}
+use Rattle.chain.specs.Positions.{At, In}
 use Rattle.chain.proofs.Positions.{none-is-not-some, some-injective, within, stays, at-the-end, at-is-getD}
 use Rattle.chain.proofs.Following.{none-is-the-last}
 use Rattle.memory.specs.declared.Tail.{Tail}
@@ -31,14 +30,14 @@ use Rattle.thread.specs.declared.running.RunStep.the-variants.{A1, A2, A3, A4, 
 use Rattle.thread.specs.Running.{runAccess, runAfter, afterA2, afterA3, afterA6, walkTo, back, runningAt}
 use Rattle.row.specs.declared.Row.{Row}
 use Rattle.order.specs.Ghost.{Ghost, Batch, joins, ifFree, batchOf, noBatch, runGhost}
-use Rattle.order.proofs.Shared.{Shared, next, led, linked, withLinks, withHead, tailIf, headIf}
+use Rattle.order.proofs.Shared.{Shared, next, led, linked, withLinks, withHead, tailIf}
 use Rattle.order.proofs.Invariant.{Linked, NotLinked, FrontAt, Asks, Inv}
-use Rattle.order.proofs.Knows.{Mine, TailRead, Past, requestOf, goal, KnowsResume, KnowsRun, KnowsAt}
+use Rattle.order.proofs.Knows.{Past, requestOf, KnowsResume, KnowsRun}
 use Rattle.order.proofs.Grows.{Grows, Spares, resume-stays}
 use Rattle.order.proofs.SameEnds.{one-announced}
-use Rattle.order.proofs.TailMoves.{quiet, spared, tail-cas-spares, one-further-grows, pastBatch, over-batch-inv, over-batch-grows, past-batch}
-use Rattle.order.proofs.HeadMoves.{head-grows, head-spares, head-freed-inv, head-cas-grows, head-cas-spares, set-old-tail-inv, set-old-tail-grows, set-old-tail-spares, old-tail-is-set}
-use Rattle.order.proofs.LinkSteps.{Joins, at-last, tail-there, all-ends, join-inv, join-grows, join-spares}
+use Rattle.order.proofs.TailMoves.{tail-cas-spares, one-further-grows, pastBatch, over-batch-inv, over-batch-grows, past-batch}
+use Rattle.order.proofs.HeadMoves.{head-grows, head-spares, head-freed-inv, set-old-tail-inv, set-old-tail-grows, set-old-tail-spares, old-tail-is-set}
+use Rattle.order.proofs.LinkSteps.{Joins, tail-there, all-ends, join-inv, join-grows, join-spares}
 use Rattle.order.proofs.EnqueueSteps.{found-behind}
 use Rattle.order.proofs.DequeueSteps.{front-past}
 use Rattle.order.proofs.RunReads.{after-a1, after-a2, the-batch, not-linked-yet, found-first, found-another, after-a6, after-a5}

@@ -1,20 +1,17 @@
 -- The pending calls are set off as a batch: one of dequeues only begins at q1, one with an enqueue is handed its announcement and begins at b1.
-use Prim.Native.Nat.{ℕ, zero, suc, _+_, _%_, _<_, _≤_}
+use Prim.Native.Nat.{ℕ, suc, _<_}
 use mathlib.Core.Path.{_≡_, refl, sym, ap, _∙_, subst}
 use mathlib.Core.Bool.{Bool, true, false, cond}
-use mathlib.Core.List.{List, [], _∷_}
+use mathlib.Core.List.{List}
 use mathlib.Core.Option.{some}
 use mathlib.Core.Logic.{_≢_}
 use native.Mathlib.Omega.{arith}
-use native.Mathlib.Nat.{mod-eq-of-lt}
 use lib.Dec.{eqb}
-use lib.ListN.{length, set}
+use lib.ListN.{length}
 use borrow.Author.Tests.{eqb-true, eqb-false}
-use Rattle.chain.specs.Positions.{at, At}
-use Rattle.chain.specs.Chain.{following}
-use Rattle.chain.proofs.Positions.{within, element}
+use Rattle.chain.specs.Positions.{At}
+use Rattle.chain.proofs.Positions.{element}
 use Rattle.chain.proofs.Following.{meets-the-rest}
-use Rattle.tally.specs.Tally as tally
 use Rattle.memory.specs.declared.Request.{Request}
 use Rattle.thread.specs.declared.Place.{Place}
 use Rattle.thread.specs.declared.Place.the-variants as place
@@ -29,11 +26,12 @@ use Rattle.machine.specs.State.{rowAt, withRow}
 use Rattle.machine.specs.HandOut.{handOutAnnouncement}
 use Rattle.machine.specs.Entries.{setOff}
 use Rattle.order.specs.Ghost.{Ghost, Batch, pendingOf, announces, pendingNodes, setOffGhost}
-use Rattle.order.proofs.Shared.{Shared, sharedOf, next}
-use Rattle.order.proofs.Invariant.{Asks, Inv}
-use Rattle.order.proofs.Knows.{Private, Pending, Tallied, NotAnnounced, Own, KnowsAt, Knows, requestOf}
+use Rattle.order.proofs.Shared.{Shared, sharedOf}
+use Rattle.order.proofs.Invariant.{Asks}
+use Rattle.order.proofs.Knows.{Private, Pending, Tallied, NotAnnounced, Own}
 use Rattle.order.proofs.TailMoves.{quiet, spared}
 use Rattle.order.proofs.HandingOutAnnouncements.{asking, announcementHandedOut, new-request, new-announcement-inv, new-announcement-grows, new-announcement-spares, new-batch, new-not-announced}
+use Rattle.order.proofs.HandedOut.{announcement-number, announcement-handed-out}
 use Rattle.order.proofs.Steps.{Ok, put-back, put-back-as}
 use Rattle.order.proofs.Deferred.{pending-here}
 
@@ -83,7 +81,7 @@ module _ (m : Machine) (g : Ghost) (ok : Ok m g) (i : ℕ) (lt : i < 8) (idle : 
     k = request (rowAt m i)
 
     number : nextAnnouncement (m .used) ≡ m .used .announcements
-    number = mod-eq-of-lt left
+    number = announcement-number (m .used) left
 
     abbrev row : Row
     row = calling (rowAt m i) (place.Batch (nextAnnouncement (m .used)) B1) f
@@ -93,11 +91,6 @@ module _ (m : Machine) (g : Ghost) (ok : Ok m g) (i : ℕ) (lt : i < 8) (idle : 
 
     abbrev s′ : Shared
     s′ = announcementHandedOut (sharedOf m) k
-
-    shared-is : sharedOf (handOutAnnouncement m k) ≡ s′
-    shared-is =
-        let up : tally.up (m .used .announcements) ≡ m .used .announcements + 1 = omega arith in
-        λ j. record { head = m .ends .head; tail = m .ends .tail; links = m .links; announcements = set (m .announcements) (nextAnnouncement (m .used)) (asking k); nodes = m .used .nodes; announced = up j }
 
     own : Own s′ g′ i (m .used .announcements) row
     own =
@@ -115,7 +108,7 @@ module _ (m : Machine) (g : Ghost) (ok : Ok m g) (i : ℕ) (lt : i < 8) (idle : 
 
     announced-off : Ok (withRow (handOutAnnouncement m k) i row) g′
     announced-off =
-        put-back-as m g ok i lt _ g′ s′ shared-is row refl refl refl
+        put-back-as m g ok i lt _ g′ s′ (announcement-handed-out m k left) row refl refl refl
         (new-announcement-inv (sharedOf m) g (ok .inv) i k batch asks private left)
         (new-announcement-grows (sharedOf m) g (ok .inv) i k batch asks private left)
         (λ u ne. new-announcement-spares (sharedOf m) g (ok .inv) i k batch asks private left u)

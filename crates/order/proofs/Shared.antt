@@ -1,14 +1,14 @@
 -- What the threads share, as the proof reads it: head, tail, links and announcements, and how many nodes and announcements have been handed out.
 -- The machine takes numbers by their remainder; of numbers in range that is the number itself.
-use Prim.Native.Nat.{ℕ, _%_, _<_, _≤_}
+use Prim.Native.Nat.{ℕ, _%_, _<_}
 use mathlib.Core.Path.{_≡_, refl, sym, ap, _∙_}
 use mathlib.Core.Bool.{Bool, true, false}
 use mathlib.Core.List.{List}
-use mathlib.Core.Option.{Option, none, some}
+use mathlib.Core.Option.{none, some}
 use mathlib.Core.Logic.{_≢_}
 use native.Mathlib.Omega.{arith}
 use native.Mathlib.Nat.{mod-eq-of-lt}
-use lib.ListN.{length, getD, set}
+use lib.ListN.{length, set}
 use lib.Seq.{getD-set-same, getD-set-other}
 use Rattle.memory.specs.declared.Tail.{Tail}
 use Rattle.memory.specs.declared.Head.{Head}
@@ -16,7 +16,7 @@ use Rattle.memory.specs.declared.Cell.{Cell}
 use Rattle.memory.specs.declared.Link.{Link}
 use Rattle.memory.specs.declared.Link.the-variants.{None, To}
 use Rattle.memory.specs.declared.Announcement.{Announcement}
-use Rattle.memory.specs.Memory.{Memory, cellAt, announcementAt, noCell, noAnnouncement}
+use Rattle.memory.specs.Memory.{Memory, announcementAt, noCell, noAnnouncement}
 use Rattle.machine.specs.declared.Machine.{Machine}
 pub use Rattle.order.specs.Links.{led, next}
 

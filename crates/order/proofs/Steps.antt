@@ -1,5 +1,5 @@
 -- Every step of every thread keeps the invariant of the machine and its ghost.
-use Prim.Native.Nat.{ℕ, suc, _+_, _<_, _≤_}
+use Prim.Native.Nat.{ℕ, _<_, _≤_}
 use mathlib.Core.Path.{_≡_, refl, sym, ap, _∙_, subst}
 use mathlib.Core.Bool.{Bool, true, false, cond}
 use mathlib.Core.List.{List, []}
@@ -7,7 +7,7 @@ use mathlib.Core.Logic.{_≢_}
 use native.Mathlib.Omega.{arith}
 use native.Mathlib.Decide.{ℕ-discrete}
 use lib.ListN.{length, getD, set, length-set}
-use lib.Seq.{getD-set-same, getD-set-other, set-set}
+use lib.Seq.{getD-set-same, getD-set-other}
 use Rattle.chain.specs.Positions.{at}
 use Rattle.chain.proofs.Positions.{none-is-not-some}
 use Rattle.tally.specs.Fifo.{Call}
@@ -20,32 +20,26 @@ use Rattle.memory.specs.declared.Link.the-variants.{None, To}
 use Rattle.memory.specs.declared.Request.{Request}
 use Rattle.memory.specs.declared.Found.the-variants as found
 use Rattle.memory.specs.Ends.{sameHead}
-use Rattle.memory.specs.Memory.{Memory, Performed, perform, cellAt, noAnnouncement}
+use Rattle.memory.specs.Memory.{Memory, perform, cellAt, noAnnouncement}
 use Rattle.thread.specs.declared.Place.{Place}
 use Rattle.thread.specs.declared.Place.the-variants.{Idle, Enqueue, Dequeue, Batch, Dequeues, Running}
 use Rattle.thread.specs.declared.Resume.{Resume}
 use Rattle.thread.specs.declared.Resume.the-variants as resume
-use Rattle.thread.specs.declared.After.{After}
 use Rattle.thread.specs.declared.After.the-variants as afterwards
-use Rattle.thread.specs.declared.enqueue.EnqueueStep.{EnqueueStep}
 use Rattle.thread.specs.declared.enqueue.EnqueueStep.the-variants.{E1, E2, E3, E4, E5}
-use Rattle.thread.specs.declared.batch.BatchStep.{BatchStep}
 use Rattle.thread.specs.declared.batch.BatchStep.the-variants.{B1, B2}
-use Rattle.thread.specs.declared.running.RunStep.{RunStep}
 use Rattle.thread.specs.declared.running.RunStep.the-variants.{A1, A2, A3, A4, A5, A6, A7, A8}
-use Rattle.thread.specs.Place.{announcementRun, access, after, placeAfter}
+use Rattle.thread.specs.Place.{announcementRun, access, after}
 use Rattle.row.specs.declared.Row.{Row}
-use Rattle.row.specs.Row.{placed, cleared, noRow}
+use Rattle.row.specs.Row.{noRow}
 use Rattle.machine.specs.declared.Machine.{Machine}
 use Rattle.machine.specs.State.{rowAt}
-use Rattle.machine.specs.Pairing.{pairing, settled}
-use Rattle.machine.specs.Steps.{hop, tell, stepOf}
-use Rattle.order.specs.Ghost.{Ghost, pendingOf, joins, installs, ifFree, stepGhost, enqueueGhost, batchGhost, runGhost, defers, endGhost}
-use Rattle.order.proofs.Shared.{Shared, sharedOf, inMemory}
+use Rattle.order.specs.Ghost.{Ghost, ifFree, stepGhost}
+use Rattle.order.proofs.Shared.{Shared, sharedOf}
 use Rattle.order.proofs.Invariant.{Inv}
 use Rattle.order.proofs.Knows.{Pending, Tallied, Own, Alone, KnowsResume, KnowsAt, Knows}
 use Rattle.order.proofs.Grows.{Grows, Spares, knows-stays}
-use Rattle.order.proofs.Fine.{Fine, memoryIn, KnowsAfter, reads-only}
+use Rattle.order.proofs.Fine.{Fine, memoryIn, reads-only}
 use Rattle.order.proofs.EnqueueSteps.{enqueue-step}
 use Rattle.order.proofs.DequeueSteps.{dequeue-step, dequeues-step}
 use Rattle.order.proofs.BatchSteps.{batch-step}
