@@ -37,9 +37,20 @@ def peak_mebibytes(name):
     return run.stdout.strip()
 
 
+def left_open(text):
+    """Of a function whose contract needed no proof by hand: what the checker now leaves open."""
+    function = re.search(r"^help: write \S+/proofs/(\S+)/Proof\.antt", text, re.M)
+    need = re.search(r"^ +(\S+) c(?: κs)? = \?", text, re.M)
+    if function and need:
+        return f"{function.group(1)}, which was proved by itself: {need.group(1)} is not"
+
+
 def first_words(name, label):
     log = ROOT / "target" / "must-fail" / name / label / ".log"
-    for line in log.read_text().splitlines():
+    text = log.read_text()
+    if "`close` was not admitted" in text and (words := left_open(text)):
+        return words
+    for line in text.splitlines():
         found = re.search(r"(error: .*|it is not proved .*)", line)
         if found:
             words = found.group(1).removeprefix("error: ")

@@ -1,6 +1,6 @@
 -- What is promised of the queue after any list of entries from a fresh machine (a refused entry changes nothing):
 -- "the linked nodes form one chain from the first dummy, no loop, each node once; the tail is at the last node or one link step behind;
--- no walk runs off the end."
+-- no walk runs off the end." proofs/Promises.antt has the theorem, the-queue-is-a-queue.
 use Prim.Native.Nat.{ℕ, zero, suc, _%_, _<_, _≤_}
 use mathlib.Core.Path.{_≡_}
 use mathlib.Core.Bool.{true, cond}
@@ -181,9 +181,8 @@ EveryLinkLeadsOn links (A7 s x) = Unit {0}
 EveryLinkLeadsOn links (A8 t x) = Unit {0}
 
 -- Whatever step is next, the turns of the pairing at its end stay on the linked nodes, with those of the step itself (PairingReads.antt says
--- what a turn reads, and that it goes on where a link is there). No link is missing on the
--- walk to the abstract head from a set old tail, or, while that is unset, from a tail whose link leads to the batch. The walk of the contents is
--- over linked nodes and ends by itself.
+-- what a turn reads, and that it goes on where a link is there). No link is missing on the walk to the abstract head: from an old tail that is
+-- set, or, while it is unset, from a tail whose link leads to the batch. The walk of the contents is over linked nodes and ends by itself.
 pub record WalksStayOn (m : Machine) (steps : List (List ℕ)) : Type 0 where
   pub reads : (t : ℕ) → t < 8 → ReadsOn m (linked steps) (rowAt m t .place)
   pub pairing : (t : ℕ) → t < 8
