@@ -65,6 +65,11 @@ evaluateNeeds r = record { node = false; future = false; announcement = some (r 
 abbrev pub callVerdict : ℕ → ℕ → Row → Used → ℕ → Needs → Verdict
 callVerdict t threads r u nodes n = first (callable t threads (r .place)) (lacking n u nodes (r .count))
 
+-- what is so where a verdict accepts, and where it refuses
+abbrev pub whereAccepted : {A : Type 0} → Verdict → A → A → A
+whereAccepted Accepted x else = x
+whereAccepted (Refused r) x else = else
+
 -- 9: thread or node number at set-up out of range; 1 to 8 threads, 2 to 512 nodes, the dummy among them
 abbrev pub inRange : ℕ → ℕ → Verdict
 inRange threads nodes = cond (ltb threads 1 || ltb 8 threads || ltb nodes 2 || ltb 512 nodes) (Refused SetupOutOfRange) Accepted

@@ -4,9 +4,11 @@ use mathlib.Core.Path.{_≡_, refl, sym, ap, _∙_}
 use mathlib.Core.List.{List, [], _∷_, _++_, append-assoc}
 use native.Mathlib.Omega.{arith}
 use native.Mathlib.Numerals.{add-one, sub-one}
+use lib.Dec.{ltb}
 use lib.ListN.{length, take, set}
 use lib.Seq.{take-suc-set}
 use borrow.Author.Tests.{lt-ltb, le-ltb}
+use Rattle.refusal.proofs.Tests.{either-way}
 use Rattle.numbers.specs.Write.{groups, groupsOf}
 use Rattle.numbers.proofs.GroupByGroup.{capacity}
 
@@ -22,6 +24,15 @@ groups-last (suc k) n h = rw (lt-ltb _ _ h)
 pub groups-more : (k n : ℕ) → 128 ≤ n → groups (suc k) n ≡ (128 + n % 128) ∷ groups k (n / 128)
 unfolding groups
 groups-more k n h = rw (le-ltb _ _ h)
+
+-- a number takes five bytes at most
+few-groups : (k n : ℕ) → length (groups k n) ≤ suc k
+unfolding groups
+few-groups zero n = omega arith
+few-groups (suc k) n = either-way (λ (l : List ℕ). length l ≤ suc (suc k)) (ltb n 128) (λ e. omega arith) (λ e. omega (arith, few-groups k (n / 128)))
+
+pub few-bytes : (n : ℕ) → length (groupsOf n) ≤ 5
+few-bytes n = few-groups 4 n
 
 -- a loop that writes the groups of n: `done` are written, and those of `rest` are still to come, k of them at most behind the next
 pub record Remaining (n : ℕ) (done : List ℕ) (rest k : ℕ) : Type 0 where

@@ -37,7 +37,7 @@ use Rattle.row.specs.Row.{noRow}
 use Rattle.machine.specs.declared.Machine.{Machine}
 use Rattle.machine.specs.State.{noItem}
 use Rattle.machine.specs.Contents.{reached, headToBe, leadsTo, oldTailHead, headNode, abstractHead, chainAfter, contents}
-use Rattle.order.specs.Ghost.{Ghost}
+use Rattle.order.proofs.Ghost.{Ghost}
 use Rattle.order.specs.Promises.{requestIn, headOrOld, EveryLinkLeadsOn}
 use Rattle.order.proofs.Shared.{sharedOf, no-link}
 use Rattle.order.proofs.Invariant.{TailAt, FrontAt, Linked, NotLinked, InvEnds, Inv}

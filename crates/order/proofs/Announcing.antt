@@ -20,7 +20,7 @@ use Rattle.memory.specs.declared.OldTail.the-variants.{Unset, Set}
 use Rattle.memory.specs.declared.Announcement.{Announcement}
 use Rattle.memory.specs.Memory.{announcementAt, laidOver}
 use Rattle.row.specs.declared.Row.{Row}
-use Rattle.order.specs.Ghost.{Ghost, Batch, installs}
+use Rattle.order.proofs.Ghost.{Ghost, Batch, installs}
 use Rattle.order.proofs.SameEnds.{plain-is-not-announced}
 use Rattle.order.proofs.Shared.{Shared, next, withHead, withAnnouncements, announcing, announcement-set, other-announcement}
 use Rattle.order.proofs.Invariant.{FrontAt, Linked, NotLinked, Shape, TailAt, Asks, Inv}

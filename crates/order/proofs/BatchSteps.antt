@@ -13,7 +13,7 @@ use Rattle.thread.specs.declared.batch.BatchStep.{BatchStep}
 use Rattle.thread.specs.declared.batch.BatchStep.the-variants.{B1, B2}
 use Rattle.thread.specs.Batch.{batchAccess, batchAfter, afterB1, afterB2}
 use Rattle.row.specs.declared.Row.{Row}
-use Rattle.order.specs.Ghost.{Ghost, installs, batchGhost}
+use Rattle.order.proofs.Ghost.{Ghost, installs, batchGhost}
 use Rattle.order.proofs.Shared.{Shared}
 use Rattle.order.proofs.Invariant.{Inv}
 use Rattle.order.proofs.SameEnds.{same-head-is-plain}

@@ -12,10 +12,11 @@ use borrow.Author.Tests.{eq-eqb, ne-eqb}
 use Rattle.chain.specs.Positions.{At}
 use Rattle.chain.proofs.Positions.{within, element, there-or-at-the-end, length-one-more}
 use Rattle.tally.specs.Fifo.{Call, enqueue, dequeue}
-use Rattle.tally.specs.Excess.{enqueued}
 use Rattle.tally.specs.Tally as tally
 use Rattle.tally.specs.Tally.{tallyOf, with}
 use Rattle.tally.specs.declared.Tally.{Tally}
+use Rattle.tally.proofs.KeptUp.{tally-one-more}
+use Rattle.tally.proofs.Counts.{enqueues-are-calls}
 use Rattle.memory.specs.declared.Link.the-variants.{To}
 use Rattle.thread.specs.declared.Place.the-variants.{Idle}
 use Rattle.row.specs.declared.Row.{Row}
@@ -26,7 +27,7 @@ use Rattle.machine.specs.declared.Machine.{Machine}
 use Rattle.machine.specs.State.{rowAt}
 use Rattle.machine.specs.HandOut.{handOutNode}
 use Rattle.machine.specs.Entries.{linkedBehind, deferEnqueue, deferDequeue}
-use Rattle.order.specs.Ghost.{Ghost, pendingOf, owns, defers, deferEnqueueGhost, deferDequeueGhost}
+use Rattle.order.proofs.Ghost.{Ghost, pendingOf, owns, defers, deferEnqueueGhost, deferDequeueGhost}
 use Rattle.order.proofs.Shared.{Shared, sharedOf, withLinks}
 use Rattle.order.proofs.HandedOut.{node-number, node-handed-out}
 use Rattle.order.proofs.Invariant.{Inv}
@@ -35,15 +36,7 @@ use Rattle.order.proofs.Grows.{Grows, Spares}
 use Rattle.order.proofs.HandingOutNodes.{nodeHandedOut, linkedTo, new-node-inv, new-node-grows, new-node-spares, first-pending, next-pending-inv, next-pending-grows, next-pending-spares, next-pending}
 use Rattle.order.proofs.Deferring.{deferred-inv, deferred-grows, deferred-spares, deferred-private}
 use Rattle.order.proofs.Together.{grows-then-grows, spares-then-spares}
-use Rattle.order.proofs.Accepted.{tally-one-more}
 use Rattle.order.proofs.Steps.{Ok, put-back, put-back-as}
-
--- the enqueues among calls are not more than the calls
-pub enqueues-are-calls : (cs : List (Call ℕ)) → length (enqueued cs) ≤ length cs
-unfolding enqueued
-enqueues-are-calls [] = omega arith
-enqueues-are-calls (enqueue v ∷ cs) = omega (arith, enqueues-are-calls cs)
-enqueues-are-calls (dequeue ∷ cs) = omega (arith, enqueues-are-calls cs)
 
 -- a row's tally with one more call
 more-tallied : (g : Ghost) (t : ℕ) (r r′ : Row) (c : Call ℕ) → Tallied g t r → r .count < 32 → t < length (g .pending)
@@ -53,7 +46,7 @@ more-tallied g t r r′ c h few lt tallies counts =
     let longer = length-one-more (pendingOf g t) c in
     let counted : tally.up (r .count) ≡ length (pendingOf (defers g t (pendingOf g t ++ (c ∷ []))) t) = omega (arith, ap length is, longer, h .count) in
     record {
-      tally = tallies ∙ ap (λ (x : Tally). with x c) (h .tally) ∙ sym (tally-one-more (pendingOf g t) c (h .few)) ∙ sym (ap tallyOf is);
+      tally = tallies ∙ ap (λ (x : Tally). with x c) (h .tally) ∙ sym (tally-one-more (pendingOf g t) c (omega (arith, h .few))) ∙ sym (ap tallyOf is);
       count = counts ∙ counted;
       few = omega (arith, ap length is, longer, h .count);
     }

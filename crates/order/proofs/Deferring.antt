@@ -7,7 +7,7 @@ use native.Mathlib.Omega.{arith}
 use lib.ListN.{length}
 use lib.Seq.{getD-set-same, getD-set-other}
 use Rattle.tally.specs.Fifo.{Call}
-use Rattle.order.specs.Ghost.{Ghost, pendingOf, defers}
+use Rattle.order.proofs.Ghost.{Ghost, pendingOf, defers}
 use Rattle.order.proofs.Shared.{Shared}
 use Rattle.order.proofs.Invariant.{Linked, Inv}
 use Rattle.order.proofs.Knows.{Mine, Private}

@@ -24,7 +24,7 @@ use Rattle.thread.specs.Dequeue.{dequeueAccess, dequeueAfter, afterD1, afterD2,
 use Rattle.thread.specs.Dequeues.{dequeuesAccess, dequeuesAfter, afterQ1, afterQ2, afterQ3, oneFurther, dequeuesAt}
 use Rattle.thread.specs.declared.After.the-variants as afterwards
 use Rattle.row.specs.declared.Row.{Row}
-use Rattle.order.specs.Ghost.{Ghost}
+use Rattle.order.proofs.Ghost.{Ghost}
 use Rattle.order.proofs.Shared.{Shared, headIf}
 use Rattle.order.proofs.Invariant.{FrontAt, Inv}
 use Rattle.order.proofs.Ends.{position-small}

@@ -28,14 +28,14 @@ use Rattle.call.specs.declared.entry.Entry.{Entry}
 use Rattle.call.specs.declared.entry.Entry.the-variants as entry
 use Rattle.call.specs.declared.test.Needs.{Needs}
 use Rattle.call.specs.Next.{nextNode, nextFuture}
-use Rattle.call.specs.Refusals.{steppable, foreign, lacking, callVerdict, enqueueNeeds, dequeueNeeds, futureEnqueueNeeds, futureDequeueNeeds, evaluateNeeds, some}
+use Rattle.call.specs.Refusals.{whereAccepted, steppable, foreign, lacking, callVerdict, enqueueNeeds, dequeueNeeds, futureEnqueueNeeds, futureDequeueNeeds, evaluateNeeds, some}
 use Rattle.machine.specs.declared.Machine.{Machine}
 use Rattle.machine.specs.declared.Told.{Told}
 use Rattle.machine.specs.State.{rowAt, withRow, noFuture}
 use Rattle.machine.specs.HandOut.{handOutNode}
 use Rattle.machine.specs.Steps.{stepOf, isMore, oneMore, advance}
 use Rattle.machine.specs.Entries.{decided, refusing, linkedBehind, deferEnqueue, deferDequeue, setOff, startEnqueue, startDequeue, evaluateWaiting, evaluateOwn, evaluateKnown, evaluate, enqueue as enqueueEntry, dequeue as dequeueEntry, futureEnqueue, futureDequeue, run, apply}
-use Rattle.order.specs.Ghost.{Ghost, pendingOf, owns, setOffGhost, deferEnqueueGhost, deferDequeueGhost, startEnqueueGhost, startDequeueGhost, whereAccepted, stepOfGhost, advanceGhost, evaluateOwnGhost, evaluateGhost, entryGhost}
+use Rattle.order.proofs.Ghost.{Ghost, pendingOf, owns, setOffGhost, deferEnqueueGhost, deferDequeueGhost, startEnqueueGhost, startDequeueGhost, stepOfGhost, advanceGhost, evaluateOwnGhost, evaluateGhost, entryGhost}
 use Rattle.order.proofs.Shared.{sharedOf}
 use Rattle.order.proofs.Knows.{Single, Tallied, Alone}
 use Rattle.order.proofs.TailMoves.{quiet, spared}
@@ -43,7 +43,7 @@ use Rattle.order.proofs.HandingOutNodes.{nodeHandedOut, new-node-inv, n
 use Rattle.order.proofs.HandedOut.{node-number, node-handed-out}
 use Rattle.order.proofs.Steps.{Ok, put-back, put-back-as}
 use Rattle.order.proofs.MachineSteps.{step-keeps}
-use Rattle.order.proofs.Accepted.{Left, callable-is-idle, nothing-lacks, call-accepted}
+use Rattle.call.proofs.Accepted.{Left, callable-is-idle, nothing-lacks, call-accepted}
 use Rattle.order.proofs.Deferred.{defer-enqueue-keeps, defer-dequeue-keeps}
 use Rattle.order.proofs.SettingOff.{set-off-keeps}
 

@@ -16,7 +16,7 @@ use Rattle.memory.specs.Found.{takenIn}
 use Rattle.thread.specs.declared.After.{After}
 use Rattle.thread.specs.declared.After.the-variants as afterwards
 use Rattle.row.specs.declared.Row.{Row}
-use Rattle.order.specs.Ghost.{Ghost}
+use Rattle.order.proofs.Ghost.{Ghost}
 use Rattle.order.proofs.Shared.{Shared, inMemory, tailIf, headIf}
 use Rattle.order.proofs.Invariant.{FrontAt, Inv}
 use Rattle.order.proofs.Knows.{OneFurther, Past, requestOf, Own, Alone, KnowsAt}

@@ -2,15 +2,11 @@
 -- to their thread, the counts are positions in the chain, which has no more than 512 nodes, and a batch is of at most 32 calls.
 use Prim.Native.Nat.{ℕ, _-_, _<_, _≤_}
 use mathlib.Core.Path.{ap}
-use mathlib.Core.List.{List, [], _∷_}
 use native.Mathlib.Omega.{arith}
-use lib.ListN.{length}
 use Rattle.chain.specs.Positions.{At, In}
 use Rattle.chain.proofs.Positions.{within, element}
-use Rattle.tally.specs.Fifo.{Call, enqueue, dequeue}
-use Rattle.tally.specs.Excess.{excess, enqueues, dequeues}
 use Rattle.tally.specs.declared.Tally.{Tally}
-use Rattle.tally.proofs.Counts.{lemma-5-3, failing-and-successful}
+use Rattle.tally.proofs.Counts.{enqueues-are-calls, dequeues-are-calls, excess-le-dequeues}
 use Rattle.thread.specs.declared.Place.{Place}
 use Rattle.thread.specs.declared.Place.the-variants.{Idle, Enqueue, Dequeue, Batch, Dequeues, Running}
 use Rattle.thread.specs.declared.enqueue.EnqueueStep.{EnqueueStep}
@@ -25,25 +21,14 @@ use Rattle.thread.specs.declared.running.RunStep.the-variants.{A1, A2, A3, A4, 
 use Rattle.row.specs.declared.Row.{Row}
 use Rattle.machine.specs.declared.Machine.{Machine}
 use Rattle.machine.specs.State.{rowAt}
-use Rattle.order.specs.Ghost.{Ghost, pendingOf}
+use Rattle.order.proofs.Ghost.{Ghost, pendingOf}
 use Rattle.order.specs.Fits.{NodeFits, Rises, EnqueueFits, DequeueFits, DequeuesFits, RunFits, PlaceFits, RowFits, Fits}
 use Rattle.order.proofs.Shared.{Shared, sharedOf}
 use Rattle.order.proofs.Ends.{position-small, node-small, installed-small}
 use Rattle.order.proofs.Knows.{Single, NotAnnounced, requestOf, KnowsEnqueue, KnowsDequeue, KnowsDequeues, KnowsRun, KnowsAt}
 use Rattle.order.proofs.RunReads.{the-batch}
-use Rattle.order.proofs.Deferred.{enqueues-are-calls}
 use Rattle.order.proofs.Steps.{Ok}
 use Rattle.order.proofs.Flags.{Flags}
-
--- the excess of calls is not more than their dequeues
-excess-le-dequeues : (cs : List (Call ℕ)) → excess cs ≤ dequeues cs
-excess-le-dequeues cs = omega (arith, lemma-5-3 cs, failing-and-successful cs [])
-
-dequeues-are-calls : (cs : List (Call ℕ)) → dequeues cs ≤ length cs
-unfolding dequeues
-dequeues-are-calls [] = omega arith
-dequeues-are-calls (enqueue v ∷ cs) = omega (arith, dequeues-are-calls cs)
-dequeues-are-calls (dequeue ∷ cs) = omega (arith, dequeues-are-calls cs)
 
 module _ (m : Machine) (g : Ghost) (ok : Ok m g) where
   abbrev s : Shared

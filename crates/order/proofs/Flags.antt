@@ -25,7 +25,7 @@ use Rattle.machine.specs.declared.Machine.{Machine}
 use Rattle.machine.specs.State.{rowAt, noFuture}
 use Rattle.machine.specs.Pairing.{pairFrom}
 use Rattle.laws.proofs.HandedOut.{futures-in-order}
-use Rattle.order.specs.Ghost.{Ghost, pendingOf}
+use Rattle.order.proofs.Ghost.{Ghost, pendingOf}
 use Rattle.order.proofs.Steps.{Ok}
 use Rattle.order.proofs.PairingCounts.{isEnqueue, flags-stay}
 

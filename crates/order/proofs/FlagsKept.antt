@@ -33,7 +33,7 @@ use Rattle.call.specs.declared.pairing.Cursor.{Cursor}
 use Rattle.call.specs.declared.entry.Entry.{Entry}
 use Rattle.call.specs.declared.entry.Entry.the-variants as entry
 use Rattle.call.specs.Next.{nextNode, nextFuture, nextAnnouncement}
-use Rattle.call.specs.Refusals.{steppable, foreign, lacking, enqueueNeeds, dequeueNeeds, futureEnqueueNeeds, futureDequeueNeeds, evaluateNeeds}
+use Rattle.call.specs.Refusals.{whereAccepted, steppable, foreign, lacking, enqueueNeeds, dequeueNeeds, futureEnqueueNeeds, futureDequeueNeeds, evaluateNeeds}
 use Rattle.machine.specs.declared.Machine.{Machine}
 use Rattle.machine.specs.declared.Told.{Told}
 use Rattle.machine.specs.State.{rowAt, withRow, memoryOf, noFuture, freshMachine}
@@ -41,11 +41,11 @@ use Rattle.machine.specs.HandOut.{handOutNode, handOutAnnouncement}
 use Rattle.machine.specs.Pairing.{pairing, settled}
 use Rattle.machine.specs.Steps.{hop, tell, stepOf, isMore, oneMore, advance}
 use Rattle.machine.specs.Entries.{decided, refusing, linkedBehind, deferEnqueue, deferDequeue, setOff, startEnqueue, startDequeue, evaluateWaiting, evaluateOwn, evaluateKnown, evaluate, enqueue as enqueueEntry, dequeue as dequeueEntry, futureEnqueue, futureDequeue, run, apply}
-use Rattle.order.specs.Ghost.{Ghost, pendingOf, pendingNodes, announces, stepGhost, endGhost, defers, owns, setOffGhost, deferEnqueueGhost, deferDequeueGhost, startEnqueueGhost, startDequeueGhost, whereAccepted, stepOfGhost, advanceGhost, evaluateOwnGhost, evaluateGhost, entryGhost, freshGhost}
-use Rattle.order.specs.Reached.{after, ghostAfter}
+use Rattle.order.proofs.Ghost.{Ghost, pendingOf, pendingNodes, announces, stepGhost, endGhost, defers, owns, setOffGhost, deferEnqueueGhost, deferDequeueGhost, startEnqueueGhost, startDequeueGhost, stepOfGhost, advanceGhost, evaluateOwnGhost, evaluateGhost, entryGhost, freshGhost, ghostAfter}
+use Rattle.order.specs.Reached.{after}
 use Rattle.order.proofs.Steps.{Ok, pending-kept}
 use Rattle.order.proofs.MachineSteps.{step-keeps}
-use Rattle.order.proofs.Accepted.{Left}
+use Rattle.call.proofs.Accepted.{Left}
 use Rattle.order.proofs.Deferred.{defer-enqueue-keeps, defer-dequeue-keeps}
 use Rattle.order.proofs.Entries.{is-some, accepted, entry-keeps}
 use Rattle.order.proofs.Flags.{Flags, Carries, put-flags, pair-keeps, row-moves, deferred}

@@ -12,7 +12,7 @@ use Rattle.memory.specs.declared.OldTail.the-variants.{Unset}
 use Rattle.memory.specs.declared.Request.{Request}
 use Rattle.memory.specs.declared.Announcement.{Announcement}
 use Rattle.memory.specs.Memory.{announcementAt}
-use Rattle.order.specs.Ghost.{Ghost, Batch, announces}
+use Rattle.order.proofs.Ghost.{Ghost, Batch, announces}
 use Rattle.order.proofs.Shared.{Shared, announcing, announcement-set, other-announcement}
 use Rattle.order.proofs.Invariant.{FrontAt, Shape, Asks, Inv}
 use Rattle.order.proofs.Knows.{Mine, Private, NotAnnounced, requestOf}

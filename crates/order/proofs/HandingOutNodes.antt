@@ -12,7 +12,7 @@ use Rattle.chain.proofs.Positions.{one-element, within, past-the-end, at-left, 
 use Rattle.memory.specs.declared.Cell.{Cell}
 use Rattle.memory.specs.declared.Link.the-variants.{None, To}
 use Rattle.memory.specs.Memory.{noCell}
-use Rattle.order.specs.Ghost.{Ghost, owns}
+use Rattle.order.proofs.Ghost.{Ghost, owns}
 use Rattle.order.proofs.Shared.{Shared, next, withLinks, linked, next-of-linked, next-of-others}
 use Rattle.order.proofs.Invariant.{Inv}
 use Rattle.order.proofs.Ends.{node-small}

@@ -20,7 +20,7 @@ use Rattle.memory.specs.declared.OldTail.the-variants.{Set}
 use Rattle.memory.specs.declared.Announcement.{Announcement}
 use Rattle.memory.specs.Memory.{announcementAt, tailSet}
 use Rattle.memory.specs.Ends.{sameHead}
-use Rattle.order.specs.Ghost.{Ghost}
+use Rattle.order.proofs.Ghost.{Ghost}
 use Rattle.order.proofs.Shared.{Shared, withHead, headIf, withAnnouncements, announcing, announcement-set, other-announcement}
 use Rattle.order.proofs.Invariant.{TailAt, FrontAt, Linked, Shape, Asks, Inv}
 use Rattle.order.proofs.Ends.{linked-in-one-place, installed-small}

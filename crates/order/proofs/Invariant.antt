@@ -17,7 +17,7 @@ use Rattle.memory.specs.declared.Cell.{Cell}
 use Rattle.memory.specs.declared.OldTail.the-variants.{Unset, Set}
 use Rattle.memory.specs.declared.Announcement.{Announcement}
 use Rattle.memory.specs.Memory.{announcementAt}
-use Rattle.order.specs.Ghost.{Ghost, Batch}
+use Rattle.order.proofs.Ghost.{Ghost, Batch}
 use Rattle.order.proofs.Shared.{Shared, next}
 
 -- a tail, or a head, stands at a node of the chain, and its count is that node's position

@@ -29,8 +29,8 @@ use Rattle.thread.specs.declared.running.RunStep.{RunStep}
 use Rattle.thread.specs.declared.running.RunStep.the-variants.{A1, A2, A3, A4, A5, A6, A7, A8}
 use Rattle.thread.specs.Running.{sizeAt}
 use Rattle.row.specs.declared.Row.{Row}
-use Rattle.order.specs.Ghost as ghost
-use Rattle.order.specs.Ghost.{Ghost, pendingOf}
+use Rattle.order.proofs.Ghost as ghost
+use Rattle.order.proofs.Ghost.{Ghost, pendingOf}
 use Rattle.order.proofs.Shared.{Shared, next}
 use Rattle.order.proofs.Invariant.{TailAt, FrontAt, Linked}
 

@@ -1,3 +1,4 @@
+pub mod Ghost
 pub mod Shared
 pub mod Invariant
 pub mod Ends
@@ -22,7 +23,6 @@ pub mod Deferring
 pub mod Together
 pub mod Steps
 pub mod MachineSteps
-pub mod Accepted
 pub mod Deferred
 pub mod SettingOff
 pub mod ContentsWalk

@@ -18,7 +18,7 @@ use Rattle.memory.specs.declared.Head.the-variants.{Announced}
 use Rattle.memory.specs.declared.Link.the-variants.{To}
 use Rattle.memory.specs.declared.Announcement.{Announcement}
 use Rattle.memory.specs.Memory.{announcementAt}
-use Rattle.order.specs.Ghost.{Ghost, Batch, joins}
+use Rattle.order.proofs.Ghost.{Ghost, Batch, joins}
 use Rattle.order.proofs.Shared.{Shared, next, linked, withLinks, next-of-linked, next-of-others}
 use Rattle.order.proofs.Invariant.{NotLinked, InvChain, InvEnds, InvTail, Shape, InvLinked, InvHead, Asks, Inv}
 use Rattle.order.proofs.Ends.{node-small}

@@ -36,15 +36,16 @@ use Rattle.call.specs.declared.answer.Verdict.{Verdict}
 use Rattle.call.specs.declared.answer.Verdict.the-variants.{Accepted, Refused}
 use Rattle.call.specs.declared.entry.Entry.{Entry}
 use Rattle.call.specs.declared.entry.Entry.the-variants as entry
-use Rattle.call.specs.Refusals.{callable, steppable, foreign, lacking, callVerdict, enqueueNeeds, dequeueNeeds, futureEnqueueNeeds, futureDequeueNeeds, evaluateNeeds}
+use Rattle.call.specs.Refusals.{whereAccepted, callable, steppable, foreign, lacking, callVerdict, enqueueNeeds, dequeueNeeds, futureEnqueueNeeds, futureDequeueNeeds, evaluateNeeds}
 use Rattle.row.specs.declared.Row.{Row}
 use Rattle.machine.specs.declared.Machine.{Machine}
 use Rattle.machine.specs.State.{rowAt, memoryOf, noFuture}
 use Rattle.machine.specs.Steps.{hop, stepOf, isMore}
 use Rattle.machine.specs.Entries.{deferEnqueue, deferDequeue, apply}
-use Rattle.order.specs.Ghost.{Ghost, batchOf, joins, installs, owns, ifFree, stepGhost, endGhost, setOffGhost, deferEnqueueGhost, deferDequeueGhost, startEnqueueGhost, startDequeueGhost, whereAccepted, stepOfGhost, advanceGhost, evaluateOwnGhost, evaluateGhost, callGhost, entryGhost, freshGhost}
-use Rattle.order.specs.Reached.{after, ghostAfter}
-use Rattle.order.specs.Promises.{ifTaken, batchNodes, stepLinks, advanceLinks, whereSteppable, entryLinks, linkSteps, together, linked}
+use Rattle.order.specs.Links.{ifTaken}
+use Rattle.order.proofs.Ghost.{Ghost, batchOf, joins, installs, owns, stepGhost, endGhost, setOffGhost, deferEnqueueGhost, deferDequeueGhost, startEnqueueGhost, startDequeueGhost, stepOfGhost, advanceGhost, evaluateOwnGhost, evaluateGhost, callGhost, entryGhost, freshGhost, ghostAfter}
+use Rattle.order.specs.Reached.{after}
+use Rattle.order.specs.Promises.{batchNodes, stepLinks, advanceLinks, entryLinks, linkSteps, together, linked}
 use Rattle.order.proofs.Shared.{sharedOf, next, led}
 use Rattle.order.proofs.Knows.{TailRead, KnowsRun, KnowsResume, KnowsAt}
 use Rattle.order.proofs.RunReads.{not-linked-yet}
@@ -112,7 +113,7 @@ module _ (m : Machine) (g : Ghost) (ok : Ok m g) (i : ℕ) (lt : i < 8) (steps :
   at-the-last t read free = omega (arith, none-is-the-last (ok .inv .chain .chain) _ _ (read .is) free, within (g .chain) _ (read .is))
 
   taken-tells : (t : Tail) → TailRead (sharedOf m) g t → (l nodes : List ℕ) (who : Option ℕ) (x : Link) → cellAt (m .links) (t .node) .link ≡ x
-      → (next (m .links) (t .node) ≡ none → nodes ≡ l) → Tells (ifFree x (joins g t nodes who) g) (steps ++ ifTaken x l)
+      → (next (m .links) (t .node) ≡ none → nodes ≡ l) → Tells (ifTaken x (joins g t nodes who) g) (steps ++ ifTaken x (l ∷ []) [])
   taken-tells t read l nodes who None e same =
       let free : next (m .links) (t .node) ≡ none = ap led e in
       subst (λ (x : List ℕ). Tells (joins g t nodes who) (steps ++ (x ∷ []))) (same free) (joins-tells g steps h t nodes who (at-the-last t read free))
@@ -197,7 +198,7 @@ own-tells m g i (outcome.Item v) steps h = h
 own-tells m g i outcome.Empty steps h = h
 
 module _ (m : Machine) (g : Ghost) (ok : Ok m g) (steps : List (List ℕ)) (h : Tells g steps) where
-  run-tells : (t n : ℕ) (v : Verdict) → Tells (whereAccepted v (advanceGhost n m g (t % 8)) g) (steps ++ whereSteppable v (advanceLinks n m (t % 8)))
+  run-tells : (t n : ℕ) (v : Verdict) → Tells (whereAccepted v (advanceGhost n m g (t % 8)) g) (steps ++ whereAccepted v (advanceLinks n m (t % 8)) [])
   run-tells t n Accepted = advance-tells n m g ok (t % 8) (omega arith) steps h
   run-tells t n (Refused r) = nothing-more steps h
 

@@ -7,9 +7,8 @@ use native.Mathlib.Omega.{arith}
 use lib.ListN.{length, getD, set, length-set}
 use lib.Seq.{set-set}
 use Rattle.tally.specs.Fifo.{Call}
-use Rattle.tally.specs.Excess.{enqueued, dequeues, excess}
-use Rattle.tally.specs.Tally.{tallyOf, nothingPending}
-use Rattle.tally.proofs.Counts.{excess-nil}
+use Rattle.tally.specs.Tally.{tallyOf}
+use Rattle.tally.proofs.Counts.{tally-of-none}
 use Rattle.thread.specs.declared.Place.{Place}
 use Rattle.thread.specs.declared.Place.the-variants.{Idle}
 use Rattle.thread.specs.declared.After.{After}
@@ -22,7 +21,7 @@ use Rattle.machine.specs.declared.Machine.{Machine}
 use Rattle.machine.specs.State.{rowAt, memoryOf}
 use Rattle.machine.specs.Pairing.{pairing, settled}
 use Rattle.machine.specs.Steps.{accessed, hop, tell, stepOf}
-use Rattle.order.specs.Ghost.{Ghost, pendingOf, stepGhost, defers, endGhost}
+use Rattle.order.proofs.Ghost.{Ghost, pendingOf, stepGhost, defers, endGhost}
 use Rattle.order.proofs.Shared.{sharedOf}
 use Rattle.order.proofs.Invariant.{Inv}
 use Rattle.order.proofs.Knows.{Tallied, Alone}
@@ -31,10 +30,6 @@ use Rattle.order.proofs.Fine.{Fine, KnowsAfter}
 use Rattle.order.proofs.Deferring.{deferred-inv, deferred-grows, deferred-spares, deferred-pending}
 use Rattle.order.proofs.Together.{grows-then-grows, spares-then-spares}
 use Rattle.order.proofs.Steps.{Ok, place-step, pending-kept, put-back, nothing-private, alone-tally, same-place}
-
-pub tally-of-none : tallyOf {A = ℕ} [] ≡ nothingPending
-unfolding enqueued dequeues
-tally-of-none = λ k. record { enqueues = 0; dequeues = 0; excess = excess-nil ℕ k }
 
 module _ (m : Machine) (g : Ghost) (ok : Ok m g) (i : ℕ) (lt : i < 8) where
   -- the ghost after the step's access
@@ -118,7 +113,7 @@ module _ (m : Machine) (g : Ghost) (ok : Ok m g) (i : ℕ) (lt : i < 8) where
       none = deferred-pending (sharedOf m₁) g₁ i [] room
 
       cleared-tally : Tallied g₂ i (cleared (rowAt m₁ i))
-      cleared-tally = record { tally = sym (ap tallyOf none ∙ tally-of-none); count = sym (ap length none); few = omega (arith, ap length none) }
+      cleared-tally = record { tally = sym (ap tallyOf none ∙ tally-of-none ℕ); count = sym (ap length none); few = omega (arith, ap length none) }
 
   -- a step of the machine
   pub step-keeps : Ok (stepOf m i .machine) (endGhost g₁ i (hop m i .after))

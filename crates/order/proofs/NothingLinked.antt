@@ -7,7 +7,7 @@ use Rattle.chain.specs.Positions.{At}
 use Rattle.chain.proofs.Positions.{within}
 use Rattle.memory.specs.declared.Tail.{Tail}
 use Rattle.memory.specs.declared.Announcement.{Announcement}
-use Rattle.order.specs.Ghost.{Ghost, Batch}
+use Rattle.order.proofs.Ghost.{Ghost, Batch}
 use Rattle.order.proofs.Shared.{Shared}
 use Rattle.order.proofs.Invariant.{Linked, InvEnds, InvTail, Shape, Inv}
 use Rattle.order.proofs.Knows.{Mine, MineToo}

@@ -24,7 +24,7 @@ use Rattle.machine.specs.declared.Machine.{Machine}
 use Rattle.machine.specs.State.{rowAt, memoryOf, noFuture}
 use Rattle.machine.specs.Pairing.{done}
 use Rattle.machine.specs.Steps.{hop}
-use Rattle.order.specs.Ghost.{Ghost, pendingOf, stepGhost}
+use Rattle.order.proofs.Ghost.{Ghost, pendingOf, stepGhost}
 use Rattle.order.specs.PairingReads.{AllStayOn, futureAt, withOutcome, turns, enqueuesAmong, batchCursor, dequeuesCursor, turnsFrom, turnsAfter}
 use Rattle.order.proofs.Knows.{Tallied}
 use Rattle.order.proofs.Steps.{Ok}

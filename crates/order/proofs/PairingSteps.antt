@@ -19,7 +19,7 @@ use Rattle.row.specs.Row.{placed, noRow}
 use Rattle.machine.specs.declared.Machine.{Machine}
 use Rattle.machine.specs.State.{rowAt, memoryOf}
 use Rattle.machine.specs.Steps.{accessed, hop}
-use Rattle.order.specs.Ghost.{Ghost, pendingOf, stepGhost}
+use Rattle.order.proofs.Ghost.{Ghost, pendingOf, stepGhost}
 use Rattle.order.specs.PairingReads.{AllStayOn, enqueuesAmong, batchCursor, turnsFrom, turnsAfter}
 use Rattle.order.proofs.Shared.{sharedOf}
 use Rattle.order.proofs.Invariant.{Inv}

@@ -32,7 +32,7 @@ use Rattle.call.specs.declared.pairing.Around.{Around}
 use Rattle.call.specs.Pairing.{nodeBehind, sameLink, pay, payBatch, payDequeues, paid}
 use Rattle.machine.specs.Pairing.{around, pairFrom}
 use Rattle.order.specs.PairingReads.{Turn, turns, resultsOf, enqueuesAmong, batchCursor, dequeuesCursor, LeadsTo, StaysOn, AllStayOn}
-use Rattle.order.specs.Ghost.{Ghost}
+use Rattle.order.proofs.Ghost.{Ghost}
 use Rattle.order.proofs.Shared.{Shared, led, next, link-to}
 use Rattle.order.proofs.Invariant.{Inv}
 use Rattle.order.proofs.Knows.{requestOf, Tallied, Own}

@@ -22,12 +22,12 @@ use Rattle.row.specs.declared.Row.{Row}
 use Rattle.call.specs.declared.answer.Verdict.the-variants.{Accepted}
 use Rattle.call.specs.declared.entry.Entry.{Entry}
 use Rattle.call.specs.Refusals.{inRange}
-use Rattle.call.proofs.Ranges.{in-range}
+use Rattle.call.proofs.Accepted.{in-range}
 use Rattle.machine.specs.declared.Machine.{Machine}
 use Rattle.machine.specs.State.{freshMachine, rowAt, memoryOf, noFuture}
 use Rattle.machine.specs.Steps.{hop}
 use Rattle.order.specs.Links.{led, next}
-use Rattle.order.specs.Ghost.{Ghost, pendingOf, freshGhost}
+use Rattle.order.proofs.Ghost.{Ghost, pendingOf, freshGhost}
 use Rattle.order.specs.Reached.{after}
 use Rattle.order.specs.PairingReads.{AllStayOn, turnsAfter}
 use Rattle.order.specs.Promises.{stepLinks, linkSteps, together, linked, OneChain, LastOf, OneBehind, TailNear, HeadsLinked, ReadsOn, WalksStayOn, BatchesWhole, Queue}

@@ -9,6 +9,7 @@ use Rattle.chain.specs.Positions.{at, At}
 use Rattle.chain.proofs.Positions.{none-is-not-some, some-injective, within, past-the-end, the-only-one}
 use Rattle.tally.specs.Fifo.{Call}
 use Rattle.tally.specs.Tally.{tallyOf}
+use Rattle.tally.proofs.Counts.{tally-of-none}
 use Rattle.memory.specs.declared.Cell.{Cell}
 use Rattle.memory.specs.declared.Front.{Front}
 use Rattle.memory.specs.Memory.{noCell, noAnnouncement}
@@ -17,14 +18,13 @@ use Rattle.call.specs.declared.entry.Entry.{Entry}
 use Rattle.machine.specs.declared.Machine.{Machine}
 use Rattle.machine.specs.State.{freshMachine, rowAt}
 use Rattle.machine.specs.Entries.{apply}
-use Rattle.order.specs.Ghost.{Ghost, pendingOf, freshGhost, entryGhost}
-use Rattle.order.specs.Reached.{after, ghostAfter}
+use Rattle.order.proofs.Ghost.{Ghost, pendingOf, freshGhost, entryGhost, ghostAfter}
+use Rattle.order.specs.Reached.{after}
 use Rattle.order.proofs.Shared.{sharedOf, next, led}
 use Rattle.order.proofs.Invariant.{Inv}
 use Rattle.order.proofs.SameEnds.{plain-is-not-announced, one-plain}
 use Rattle.order.proofs.Knows.{Knows}
 use Rattle.order.proofs.Steps.{Ok, nothing-private}
-use Rattle.order.proofs.MachineSteps.{tally-of-none}
 use Rattle.order.proofs.Entries.{entry-keeps}
 
 -- an element of a table that holds one value everywhere
@@ -98,7 +98,7 @@ module _ (threads nodes : ℕ) (fits : nodes ≤ 512) where
       let none : pendingOf freshGhost t ≡ [] = everywhere 8 t [] in
       subst (Knows (sharedOf (freshMachine threads nodes)) freshGhost t) (sym row)
       (record {
-        tallied = record { tally = sym (ap tallyOf none ∙ tally-of-none); count = sym (ap length none); few = omega (arith, ap length none) };
+        tallied = record { tally = sym (ap tallyOf none ∙ tally-of-none ℕ); count = sym (ap length none); few = omega (arith, ap length none) };
         place = nothing-private (sharedOf (freshMachine threads nodes)) freshGhost t freshRow refl;
       })
 

@@ -28,7 +28,7 @@ use Rattle.memory.specs.Memory.{cellAt, announcementAt}
 use Rattle.thread.specs.declared.running.RunStep.the-variants.{A2, A3, A6, A7}
 use Rattle.thread.specs.Running.{afterA2, afterA6, sizeAt, walkTo}
 use Rattle.row.specs.declared.Row.{Row}
-use Rattle.order.specs.Ghost.{Ghost, Batch}
+use Rattle.order.proofs.Ghost.{Ghost, Batch}
 use Rattle.order.proofs.Shared.{Shared, next, led}
 use Rattle.order.proofs.Invariant.{Linked, NotLinked, Inv}
 use Rattle.order.proofs.Knows.{OneFurther, Past, requestOf, risesBy, goal, KnowsRun}

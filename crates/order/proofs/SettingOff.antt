@@ -25,7 +25,7 @@ use Rattle.machine.specs.declared.Machine.{Machine}
 use Rattle.machine.specs.State.{rowAt, withRow}
 use Rattle.machine.specs.HandOut.{handOutAnnouncement}
 use Rattle.machine.specs.Entries.{setOff}
-use Rattle.order.specs.Ghost.{Ghost, Batch, pendingOf, announces, pendingNodes, setOffGhost}
+use Rattle.order.proofs.Ghost.{Ghost, Batch, pendingOf, announces, pendingNodes, setOffGhost}
 use Rattle.order.proofs.Shared.{Shared, sharedOf}
 use Rattle.order.proofs.Invariant.{Asks}
 use Rattle.order.proofs.Knows.{Private, Pending, Tallied, NotAnnounced, Own}

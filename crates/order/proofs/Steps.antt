@@ -34,7 +34,8 @@ use Rattle.row.specs.declared.Row.{Row}
 use Rattle.row.specs.Row.{noRow}
 use Rattle.machine.specs.declared.Machine.{Machine}
 use Rattle.machine.specs.State.{rowAt}
-use Rattle.order.specs.Ghost.{Ghost, ifFree, stepGhost}
+use Rattle.order.specs.Links.{ifTaken}
+use Rattle.order.proofs.Ghost.{Ghost, stepGhost}
 use Rattle.order.proofs.Shared.{Shared, sharedOf}
 use Rattle.order.proofs.Invariant.{Inv}
 use Rattle.order.proofs.Knows.{Pending, Tallied, Own, Alone, KnowsResume, KnowsAt, Knows}
@@ -70,7 +71,7 @@ module _ (s : Shared) (g : Ghost) (i : Inv s g) (t : ℕ) (r : Row) where
   place-step (Running a x y) k = run-step s g i t r a y (k .0) (k .1) x (k .2)
 
 -- a step leaves the pending calls alone
-either-pending : (v : Link) (x y : Ghost) (l : List (List (Call ℕ))) → x .pending ≡ l → y .pending ≡ l → ifFree v x y .pending ≡ l
+either-pending : (v : Link) (x y : Ghost) (l : List (List (Call ℕ))) → x .pending ≡ l → y .pending ≡ l → ifTaken v x y .pending ≡ l
 either-pending None x y l p q = p
 either-pending (To n) x y l p q = q
 

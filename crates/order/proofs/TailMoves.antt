@@ -13,7 +13,7 @@ use Rattle.memory.specs.declared.Tail.{Tail}
 use Rattle.memory.specs.declared.OldTail.the-variants.{Unset, Set}
 use Rattle.memory.specs.Memory.{announcementAt}
 use Rattle.memory.specs.Ends.{sameTail, pastTail, up}
-use Rattle.order.specs.Ghost.{Ghost}
+use Rattle.order.proofs.Ghost.{Ghost}
 use Rattle.order.proofs.Shared.{Shared, withTail, tailIf}
 use Rattle.order.proofs.Invariant.{TailAt, Linked, Shape, Inv}
 use Rattle.order.proofs.Ends.{ends-in-order, steps-in-order, one-step-a-position, position-small, goes-up}

@@ -6,7 +6,7 @@ use native.Mathlib.Omega.{arith}
 use lib.ListN.{length}
 use native.Mathlib.Decide.{decLt}
 use Rattle.chain.proofs.Positions.{within, element}
-use Rattle.order.specs.Ghost.{Ghost}
+use Rattle.order.proofs.Ghost.{Ghost}
 use Rattle.order.proofs.Shared.{Shared}
 use Rattle.order.proofs.Grows.{Grows, Spares}
 

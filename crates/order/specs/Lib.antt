@@ -1,5 +1,4 @@
 pub mod Links
-pub mod Ghost
 pub mod Reached
 pub mod PairingReads
 pub mod Fits

@@ -15,7 +15,6 @@ use Rattle.memory.specs.declared.Tail.{Tail}
 use Rattle.memory.specs.declared.Front.{Front}
 use Rattle.memory.specs.declared.Head.{Head}
 use Rattle.memory.specs.declared.Head.the-variants.{Plain, Announced}
-use Rattle.memory.specs.declared.Link.{Link}
 use Rattle.memory.specs.declared.Link.the-variants.{None, To}
 use Rattle.memory.specs.declared.OldTail.the-variants.{Set}
 use Rattle.memory.specs.declared.Request.{Request}
@@ -30,32 +29,26 @@ use Rattle.thread.specs.declared.dequeues.DequeuesStep.the-variants.{Q1, Q2, Q3
 use Rattle.thread.specs.declared.running.RunStep.{RunStep}
 use Rattle.thread.specs.declared.running.RunStep.the-variants.{A1, A2, A3, A4, A5, A6, A7, A8}
 use Rattle.thread.specs.Running.{walkTo}
-use Rattle.call.specs.declared.answer.Verdict.{Verdict}
-use Rattle.call.specs.declared.answer.Verdict.the-variants.{Accepted, Refused}
 use Rattle.call.specs.declared.entry.Entry.{Entry}
 use Rattle.call.specs.declared.entry.Entry.the-variants as entry
-use Rattle.call.specs.Refusals.{steppable}
+use Rattle.call.specs.Refusals.{whereAccepted, steppable}
 use Rattle.machine.specs.declared.Machine.{Machine}
 use Rattle.machine.specs.State.{rowAt, memoryOf}
 use Rattle.machine.specs.Steps.{hop, stepOf, isMore}
 use Rattle.machine.specs.Contents.{walked, leadsTo, abstractHead, chainAfter}
 use Rattle.machine.specs.Entries.{apply}
-use Rattle.order.specs.Links.{next}
+use Rattle.order.specs.Links.{next, nodesFrom, ifTaken}
 use Rattle.order.specs.Fits.{Fits}
 use Rattle.order.specs.PairingReads.{AllStayOn, turnsAfter}
 
--- LINK STEPS. A link step is an e2 or an a3 that is taken, which it is where the link that it compares is none. It is told by the nodes that
--- it links: e2 the node of its call, a3 the nodes of its batch, as many as the batch has enqueues, from the first along the links.
-abbrev pub ifTaken : Link → List ℕ → List (List ℕ)
-ifTaken None nodes = nodes ∷ []
-ifTaken (To x) nodes = []
-
+-- LINK STEPS. A link step is an e2 or an a3 that is taken. It is told by the nodes that it links: e2 the node of its call, a3 the nodes of its
+-- batch, as many as the batch has enqueues, from the first along the links.
 abbrev pub batchNodes : Memory → Request → List ℕ
-batchNodes m k = following (next (m .links)) (k .tally .enqueues) (some (k .first))
+batchNodes m k = nodesFrom (m .links) (k .first) (k .tally .enqueues)
 
 abbrev pub enqueueLinks : Memory → ℕ → EnqueueStep → List (List ℕ)
 enqueueLinks m n E1 = []
-enqueueLinks m n (E2 t) = ifTaken (cellAt (m .links) (t .node) .link) (n ∷ [])
+enqueueLinks m n (E2 t) = ifTaken (cellAt (m .links) (t .node) .link) ((n ∷ []) ∷ []) []
 enqueueLinks m n (E3 t) = []
 enqueueLinks m n (E4 t x) = []
 enqueueLinks m n (E5 t x) = []
@@ -63,7 +56,7 @@ enqueueLinks m n (E5 t x) = []
 abbrev pub runLinks : Memory → ℕ → RunStep → List (List ℕ)
 runLinks m a A1 = []
 runLinks m a (A2 t) = []
-runLinks m a (A3 t) = ifTaken (cellAt (m .links) (t .node) .link) (batchNodes m (announcementAt (m .announcements) a .request))
+runLinks m a (A3 t) = ifTaken (cellAt (m .links) (t .node) .link) (batchNodes m (announcementAt (m .announcements) a .request) ∷ []) []
 runLinks m a (A4 t) = []
 runLinks m a (A5 o) = []
 runLinks m a (A6 rise x left) = []
@@ -84,18 +77,14 @@ unfoldable pub advanceLinks : ℕ → Machine → ℕ → List (List ℕ)
 advanceLinks zero m i = []
 advanceLinks (suc n) m i = stepLinks (memoryOf m) (rowAt m i .place) ++ cond (isMore (stepOf m i .answer)) (advanceLinks n (stepOf m i .machine) i) []
 
-abbrev pub whereSteppable : Verdict → List (List ℕ) → List (List ℕ)
-whereSteppable Accepted steps = steps
-whereSteppable (Refused r) steps = []
-
 unfoldable pub entryLinks : Machine → Entry → List (List ℕ)
 entryLinks m (entry.Enqueue t v) = []
 entryLinks m (entry.Dequeue t) = []
 entryLinks m (entry.FutureEnqueue t v) = []
 entryLinks m (entry.FutureDequeue t) = []
 entryLinks m (entry.Evaluate t f) = []
-entryLinks m (entry.Step t) = whereSteppable (steppable t (m .threads) (rowAt m (t % 8) .place)) (advanceLinks 1 m (t % 8))
-entryLinks m (entry.Run t n) = whereSteppable (steppable t (m .threads) (rowAt m (t % 8) .place)) (advanceLinks n m (t % 8))
+entryLinks m (entry.Step t) = whereAccepted (steppable t (m .threads) (rowAt m (t % 8) .place)) (advanceLinks 1 m (t % 8)) []
+entryLinks m (entry.Run t n) = whereAccepted (steppable t (m .threads) (rowAt m (t % 8) .place)) (advanceLinks n m (t % 8)) []
 
 -- the link steps of a list of entries, in the order in which they were taken
 unfoldable pub linkSteps : Machine → List Entry → List (List ℕ)

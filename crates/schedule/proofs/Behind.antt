@@ -9,19 +9,6 @@ use lib.ListN.{length, length-append}
 use Rattle.numbers.specs.Write.{groups, groupsOf}
 use Rattle.schedule.specs.Write.{pairBytes, tripleBytes}
 
-shorter : (t : Bool) (n : ℕ) (a b : List ℕ) → length a ≤ n → length b ≤ n → length (cond t a b) ≤ n
-shorter true n a b h g = h
-shorter false n a b h g = g
-
-groups-few : (k n : ℕ) → length (groups k n) ≤ suc k
-unfolding groups
-groups-few zero n = omega arith
-groups-few (suc k) n = shorter (ltb n 128) (suc (suc k)) _ _ (omega arith) (omega (arith, groups-few k (n / 128)))
-
--- a number takes five bytes at most
-pub few-bytes : (n : ℕ) → length (groupsOf n) ≤ 5
-few-bytes n = groups-few 4 n
-
 pub pair-length : (a b : ℕ) → length (pairBytes a b) ≡ length (groupsOf a) + length (groupsOf b)
 pair-length a b = length-append (groupsOf a) (groupsOf b)
 

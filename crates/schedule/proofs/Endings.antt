@@ -4,6 +4,7 @@ use Prim.Native.Nat.{ℕ, zero, suc, _+_, _<_, _≤_}
 use mathlib.Core.Path.{_≡_, refl, sym, ap, _∙_, subst}
 use mathlib.Core.Bool.{Bool, true, false, cond, _||_}
 use mathlib.Core.List.{List, [], _∷_, _++_, append-assoc}
+use mathlib.Core.Logic.{⊎-elim}
 use native.Mathlib.Omega.{arith}
 use lib.Dec.{ltb, eqb}
 use lib.ListN.{length, drop}
@@ -12,6 +13,7 @@ use Rattle.refusal.specs.declared.Refusal.the-variants.{SetupOutOfRange, CutSho
 use Rattle.refusal.specs.Numbers.{numberOf}
 use Rattle.numbers.specs.declared.Reading.{Reading}
 use Rattle.numbers.specs.declared.Reading.the-variants.{Number, Refused}
+use Rattle.numbers.proofs.Within.{refused-by-10-or-11}
 use Rattle.numbers.specs.Read.{lastGroup, before, following, number, numberAt, Bytes}
 use Rattle.call.specs.declared.entry.Entry.{Entry}
 use Rattle.call.specs.declared.answer.Verdict.the-variants as verdict
@@ -20,7 +22,7 @@ use Rattle.schedule.specs.declared.read.EntryReading.{EntryReading}
 use Rattle.schedule.specs.declared.read.EntryReading.the-variants as entry
 use Rattle.schedule.specs.Read.{setUpOf, entryAt}
 use Rattle.schedule.specs.Schedule.{Ending, ended, refused, Entries, first, goOn, entriesUpTo, entriesFrom, bytesOf, bytesOfAll}
-use Rattle.schedule.proofs.Ways.{either-way, EntryWay, entry-way, SetUpWay, set-up-way}
+use Rattle.schedule.proofs.Ways.{EntryWay, entry-way, SetUpWay, set-up-way}
 use Rattle.schedule.proofs.Within.{entry-within}
 use Rattle.schedule.proofs.RoundTrip.{AllFit, ends-here}
 use Rattle.schedule.proofs.Written.{entry-is-written}
@@ -29,39 +31,8 @@ use Rattle.schedule.proofs.Written.{entry-is-written}
 abbrev pub Between : ℕ → ℕ → Refusal → Type 0
 Between low high r = (low ≤ numberOf r) × (numberOf r ≤ high)
 
--- a number is read, or refused by 10 or 11
-data NumberEnds : Reading → Type 0 where
-  reads-well : {v next : ℕ} → NumberEnds (Number v next)
-  cut-short : NumberEnds (Refused CutShort)
-  too-long : NumberEnds (Refused TooLong)
-
-last-group-ends : (at b : ℕ) → NumberEnds (lastGroup at b)
-unfolding lastGroup
-last-group-ends at b = either-way NumberEnds (eqb b 0) (λ e. too-long) (λ e. reads-well)
-
-before-ends : (b : ℕ) (r : Reading) → NumberEnds r → NumberEnds (before b r)
-unfolding before
-before-ends b (Number v next) h = reads-well
-before-ends b (Refused r) h = h
-
-following-ends : (k at : ℕ) (s : List ℕ) → NumberEnds (following k at s)
-unfolding following
-following-ends zero at [] = cut-short
-following-ends (suc k) at [] = cut-short
-following-ends zero at (b ∷ s) = either-way NumberEnds (ltb 15 b) (λ e. too-long) (λ e. last-group-ends at b)
-following-ends (suc k) at (b ∷ s) = either-way NumberEnds (ltb b 128) (λ e. last-group-ends at b) (λ e. before-ends b _ (following-ends k (at + 1) s))
-
-number-ends : (at : ℕ) (s : List ℕ) → NumberEnds (number at s)
-unfolding number
-number-ends at [] = cut-short
-number-ends at (b ∷ s) = either-way NumberEnds (ltb b 128) (λ e. reads-well) (λ e. before-ends b _ (following-ends 3 (at + 1) s))
-
-pub number-refusals : (s : List ℕ) (at : ℕ) (r : Refusal) → numberAt s at ≡ Refused r → Between 10 11 r
-number-refusals s at r e = ten-or-eleven r (subst NumberEnds e (number-ends at (drop at s)))
-  where
-    ten-or-eleven : (r : Refusal) → NumberEnds (Refused r) → Between 10 11 r
-    ten-or-eleven r cut-short = omega arith
-    ten-or-eleven r too-long = omega arith
+number-refusals : (s : List ℕ) (at : ℕ) (r : Refusal) → numberAt s at ≡ Refused r → Between 10 11 r
+number-refusals s at r e = ⊎-elim (λ q. subst (Between 10 11) (sym q) (omega arith)) (λ q. subst (Between 10 11) (sym q) (omega arith)) (refused-by-10-or-11 s at r e)
 
 -- an entry is refused by 10, 11 or 12, a set-up by 9, 10 or 11
 pub entry-refusals : (s : List ℕ) (from : ℕ) (r : Refusal) → entryAt s from ≡ entry.Refused r → Between 10 12 r

@@ -10,17 +10,17 @@ use Rattle.lent.specs.Lent.{writing, written}
 use Rattle.lent.proofs.Laws.{refusal-changes-nothing, accepted-changes-only-these}
 use Rattle.call.specs.declared.answer.Verdict.{Verdict}
 use Rattle.call.specs.declared.answer.Verdict.the-variants as verdict
-use Rattle.call.specs.Refusals.{inRange}
-use Rattle.schedule.specs.Write.{whereAccepted, answerWhereAccepted, isCode, setUpBytes, entryBytes, setUpWriting, setUpWritten, entryWriting, entryWritten}
+use Rattle.call.specs.Refusals.{whereAccepted, inRange}
+use Rattle.schedule.specs.Write.{answerWhereAccepted, isCode, setUpBytes, entryBytes, setUpWriting, setUpWritten, entryWriting, entryWritten}
 
 -- whatever is tested first
 module _ (l buf : List ℕ) where
-  tested-refusal : (v : Verdict) (r : Refusal) → answerWhereAccepted v (writing l buf) ≡ Refused r → whereAccepted v (written l) buf ≡ buf
+  tested-refusal : (v : Verdict) (r : Refusal) → answerWhereAccepted v (writing l buf) ≡ Refused r → whereAccepted v (written l buf) buf ≡ buf
   tested-refusal verdict.Accepted r e = refusal-changes-nothing l buf r e
   tested-refusal (verdict.Refused q) r e = refl
 
   tested-acceptance : (v : Verdict) (n : ℕ) → answerWhereAccepted v (writing l buf) ≡ Wrote n
-      → (take n (whereAccepted v (written l) buf) ≡ l) × (drop n (whereAccepted v (written l) buf) ≡ drop n buf)
+      → (take n (whereAccepted v (written l buf) buf) ≡ l) × (drop n (whereAccepted v (written l buf) buf) ≡ drop n buf)
   tested-acceptance verdict.Accepted n e = accepted-changes-only-these l buf n e
   tested-acceptance (verdict.Refused q) n e = absurd (let z : _≡_ {A = ℕ} 0 1 = cc in omega arith)
 

@@ -15,17 +15,17 @@ use Rattle.numbers.proofs.RoundTrip.{reads-back}
 use Rattle.numbers.proofs.Within.{reads-within}
 use Rattle.lent.specs.declared.Writing.the-variants.{Wrote}
 use Rattle.lent.specs.Lent.{writing, written}
-use Rattle.lent.proofs.Laws.{writing-fits, written-fits, writing-short}
+use Rattle.lent.proofs.Laws.{written-fits, accepted-fits}
 use Rattle.call.specs.declared.entry.Entry.{Entry}
 use Rattle.call.specs.declared.answer.Verdict.{Verdict}
 use Rattle.call.specs.declared.answer.Verdict.the-variants.{Accepted, Refused}
-use Rattle.call.specs.Refusals.{inRange}
-use Rattle.call.proofs.Ranges.{in-range}
+use Rattle.call.specs.Refusals.{whereAccepted, inRange}
+use Rattle.call.proofs.Accepted.{in-range}
 use Rattle.schedule.specs.declared.read.SetUpReading.the-variants.{SetUp}
 use Rattle.schedule.specs.declared.read.EntryReading.the-variants as entry
 use Rattle.schedule.specs.Codes.{operands, entryOf, threadOf, secondOf}
 use Rattle.schedule.specs.Read.{after, setUpOf, secondAt, threadAt, entryAt}
-use Rattle.schedule.specs.Write.{pairBytes, tripleBytes, setUpBytes, entryBytes, whereAccepted, answerWhereAccepted, setUpWriting, setUpWritten, entryWriting, entryWritten}
+use Rattle.schedule.specs.Write.{pairBytes, tripleBytes, setUpBytes, entryBytes, answerWhereAccepted, setUpWriting, setUpWritten, entryWriting, entryWritten}
 use Rattle.schedule.specs.Schedule.{ended, first, entriesUpTo, entriesFrom, bytesOf, bytesOfAll, scheduleBytes}
 use Rattle.schedule.proofs.Codes.{IsCode, code-is-1-to-7, one-where-not-two, is-a-code, of-its-code, one-operand-counts}
 use Rattle.schedule.proofs.Within.{entry-within}
@@ -150,10 +150,7 @@ written-schedule-reads-back threads nodes es ok fits = (
 
 -- and in a lent buffer, whatever the writer accepted reads back from its start, and takes the count that the writer answered
 accepted-writing : {A : Type 0} (l buf : List A) (n : ℕ) → writing l buf ≡ Wrote n → (written l buf ≡ l ++ drop (length l) buf) × (length l ≡ n)
-accepted-writing l buf n e = elim (decLe (length l) (length buf)) [
-  | yes fits ↦ (written-fits l buf fits, cc (writing-fits l buf fits))
-  | no short ↦ absurd (let z : _≡_ {A = ℕ} 0 1 = cc (writing-short l buf (omega arith)) in omega arith)
-]
+accepted-writing l buf n e = let w = accepted-fits l buf n e in (written-fits l buf (omega (arith, w .0, w .1)), sym (w .0))
 
 pub accepted-entry-reads-back : (code t x n : ℕ) (buf : List ℕ) → t < 2 ^ 32 → x < 2 ^ 32 → entryWriting code t x buf ≡ Wrote n
     → entryAt (entryWritten code t x buf) 0 ≡ entry.Entry (entryOf code t x) n
@@ -168,7 +165,7 @@ pub accepted-set-up-reads-back : (threads nodes n : ℕ) (buf : List ℕ) → se
 accepted-set-up-reads-back threads nodes n buf = judged (inRange threads nodes) refl
   where
     judged : (v : Verdict) → inRange threads nodes ≡ v → answerWhereAccepted v (writing (setUpBytes threads nodes) buf) ≡ Wrote n
-        → setUpOf (whereAccepted v (written (setUpBytes threads nodes)) buf) ≡ SetUp threads nodes n
+        → setUpOf (whereAccepted v (written (setUpBytes threads nodes) buf) buf) ≡ SetUp threads nodes n
     judged Accepted ok e =
         let w = accepted-writing (setUpBytes threads nodes) buf n e in
         rw (w .0, ← w .1) (set-up-reads-back threads nodes _ ok)

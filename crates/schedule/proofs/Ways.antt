@@ -9,6 +9,7 @@ use lib.Dec.{eqb}
 use borrow.Author.Tests.{leb-true, eqb-true, eqb-false}
 use Rattle.refusal.specs.declared.Refusal.{Refusal}
 use Rattle.refusal.specs.declared.Refusal.the-variants.{NoSuchCode}
+use Rattle.refusal.proofs.Tests.{either-way}
 use Rattle.numbers.specs.declared.Reading.{Reading}
 use Rattle.numbers.specs.declared.Reading.the-variants.{Number, Refused}
 use Rattle.numbers.specs.Read.{numberAt}
@@ -23,12 +24,7 @@ use Rattle.schedule.specs.Codes.{operands, entryOf}
 use Rattle.schedule.proofs.Codes.{one-where-not-two}
 use Rattle.schedule.specs.Read.{after, ranged, setUpOf, secondAt, threadAt, entryAt}
 
--- what holds on both ways of a test holds of its answer
-pub either-way : {A : Type 0} (P : A → Type 0) (t : Bool) {a b : A} → (t ≡ true → P a) → (t ≡ false → P b) → P (cond t a b)
-either-way P true f g = f refl
-either-way P false f g = g refl
-
--- and what holds of each refusal handed up and of each way on, of what comes after a number
+-- what holds of each refusal handed up and of each way on, of what comes after a number
 pub after-a-number : {A : Type 0} (P : A → Type 0) {up : Refusal → A} (r : Reading) {on : ℕ → ℕ → A}
     → ((q : Refusal) → r ≡ Refused q → P (up q)) → ((v next : ℕ) → r ≡ Number v next → P (on v next)) → P (after up r on)
 unfolding after

@@ -11,7 +11,7 @@ use Rattle.lent.specs.declared.Writing.the-variants.{Refused}
 use Rattle.lent.specs.Lent.{writing, written}
 use Rattle.call.specs.declared.answer.Verdict.{Verdict}
 use Rattle.call.specs.declared.answer.Verdict.the-variants as verdict
-use Rattle.call.specs.Refusals.{inRange}
+use Rattle.call.specs.Refusals.{whereAccepted, inRange}
 use Rattle.schedule.specs.Codes.{operands}
 
 abbrev pub pairBytes : ℕ → ℕ → List ℕ
@@ -28,11 +28,7 @@ setUpBytes threads nodes = pairBytes threads nodes
 unfoldable pub entryBytes : ℕ → ℕ → ℕ → List ℕ
 entryBytes code t x = cond (eqb (operands code) 1) (pairBytes code t) (tripleBytes code t x)
 
--- the answer, and the buffer afterwards, where a test comes first
-abbrev pub whereAccepted : {A : Type 0} → Verdict → (A → A) → A → A
-whereAccepted verdict.Accepted f buf = f buf
-whereAccepted (verdict.Refused r) f buf = buf
-
+-- the answer where a test comes first
 abbrev pub answerWhereAccepted : Verdict → Writing → Writing
 answerWhereAccepted verdict.Accepted w = w
 answerWhereAccepted (verdict.Refused r) w = Refused r
@@ -41,7 +37,7 @@ abbrev pub setUpWriting : ℕ → ℕ → List ℕ → Writing
 setUpWriting threads nodes buf = answerWhereAccepted (inRange threads nodes) (writing (setUpBytes threads nodes) buf)
 
 abbrev pub setUpWritten : ℕ → ℕ → List ℕ → List ℕ
-setUpWritten threads nodes buf = whereAccepted (inRange threads nodes) (written (setUpBytes threads nodes)) buf
+setUpWritten threads nodes buf = whereAccepted (inRange threads nodes) (written (setUpBytes threads nodes) buf) buf
 
 abbrev pub isCode : ℕ → Verdict
 isCode code = cond (eqb (operands code) 0) (verdict.Refused NoSuchCode) verdict.Accepted
@@ -50,4 +46,4 @@ abbrev pub entryWriting : ℕ → ℕ → ℕ → List ℕ → Writing
 entryWriting code t x buf = answerWhereAccepted (isCode code) (writing (entryBytes code t x) buf)
 
 abbrev pub entryWritten : ℕ → ℕ → ℕ → List ℕ → List ℕ
-entryWritten code t x buf = whereAccepted (isCode code) (written (entryBytes code t x)) buf
+entryWritten code t x buf = whereAccepted (isCode code) (written (entryBytes code t x) buf) buf

@@ -8,7 +8,7 @@ use native.Mathlib.Omega.{arith}
 use lib.ListN.{length, drop, length-append}
 use Rattle.tally.specs.Fifo.{Call, enqueue, dequeue, after, result, left, results, failing, successful}
 use Rattle.tally.specs.Excess.{prefixes, largest, enqueued, enqueues, dequeues, excess}
-use Rattle.tally.specs.Tally.{tallyOf, successfulOn}
+use Rattle.tally.specs.Tally.{tallyOf, nothingPending, successfulOn}
 use Rattle.tally.proofs.Prefixes.{best, best-nil, best-cons, best-same, best-lowered, best-raised, whole-le-best}
 
 -- the empty list has no excess
@@ -76,3 +76,24 @@ module _ {A : Type 0} where
   left-is (enqueue v ∷ cs) q = left-is cs (q ++ (v ∷ [])) ∙ ap (drop (successful (results cs (q ++ (v ∷ []))))) (append-assoc q (v ∷ []) (enqueued cs))
   left-is (dequeue ∷ cs) [] = left-is cs []
   left-is (dequeue ∷ cs) (x ∷ q) = left-is cs q
+
+  -- there are no more of each kind than calls, and no more excess than dequeues
+  pub enqueues-are-calls : (cs : List (Call A)) → enqueues cs ≤ length cs
+  unfolding enqueued
+  enqueues-are-calls [] = omega arith
+  enqueues-are-calls (enqueue v ∷ cs) = omega (arith, enqueues-are-calls cs)
+  enqueues-are-calls (dequeue ∷ cs) = omega (arith, enqueues-are-calls cs)
+
+  pub dequeues-are-calls : (cs : List (Call A)) → dequeues cs ≤ length cs
+  unfolding dequeues
+  dequeues-are-calls [] = omega arith
+  dequeues-are-calls (enqueue v ∷ cs) = omega (arith, dequeues-are-calls cs)
+  dequeues-are-calls (dequeue ∷ cs) = omega (arith, dequeues-are-calls cs)
+
+  pub excess-le-dequeues : (cs : List (Call A)) → excess cs ≤ dequeues cs
+  excess-le-dequeues cs = omega (arith, lemma-5-3 cs, failing-and-successful cs [])
+
+-- no calls
+pub tally-of-none : (A : Type 0) → tallyOf {A = A} [] ≡ nothingPending
+unfolding enqueued dequeues
+tally-of-none A = λ k. record { enqueues = 0; dequeues = 0; excess = excess-nil A k }

@@ -1,14 +1,14 @@
 -- The three counters, kept up call by call, are the tally of the calls: shown from any counters that stand for calls made before,
 -- of which the largest lead of the dequeues is already in the excess. As long as a counter does not wrap.
 use Prim.Native.Nat.{ℕ, _+_, _-_, _^_, _<_, _≤_, max}
-use mathlib.Core.Path.{_≡_, sym, ap, _∙_}
-use mathlib.Core.List.{List, [], _∷_}
+use mathlib.Core.Path.{_≡_, refl, sym, ap, _∙_}
+use mathlib.Core.List.{List, [], _∷_, _++_}
 use native.Mathlib.Omega.{arith}
-use lib.ListN.{length}
+use lib.ListN.{length, length-append}
 use Rattle.tally.specs.declared.Tally.{Tally}
 use Rattle.tally.specs.Fifo.{Call, enqueue, dequeue}
 use Rattle.tally.specs.Excess.{enqueued, enqueues, dequeues, excess}
-use Rattle.tally.specs.Tally.{tallyOf, nothingPending, up, withEnqueue, withDequeue, keptUp}
+use Rattle.tally.specs.Tally.{tallyOf, nothingPending, up, withEnqueue, withDequeue, with, keptUp}
 use Rattle.tally.proofs.Prefixes.{best, best-nil, best-cons, best-same, none-le-best}
 
 tally-path : {s t : Tally} → s .enqueues ≡ t .enqueues → s .dequeues ≡ t .dequeues → s .excess ≡ t .excess → s ≡ t
@@ -46,3 +46,15 @@ module _ {A : Type 0} where
   kept-up-is-tally cs h =
       let same : best (lead nothingPending) cs ≡ best (λ p. dequeues p - enqueues p) cs = best-same _ _ cs (λ p. omega arith) in
       kept-up-from cs nothingPending (omega arith) (omega arith) (omega arith) ∙ tally-path (omega arith) (omega arith) (omega (arith, same))
+
+  -- one more call
+  kept-up-one-more : (t : Tally) (cs : List (Call A)) (c : Call A) → keptUp t (cs ++ (c ∷ [])) ≡ with (keptUp t cs) c
+  unfolding keptUp
+  kept-up-one-more t [] c = refl
+  kept-up-one-more t (x ∷ cs) c = kept-up-one-more (with t x) cs c
+
+  pub tally-one-more : (cs : List (Call A)) (c : Call A) → length cs + 1 < 2 ^ 32 → tallyOf (cs ++ (c ∷ [])) ≡ with (tallyOf cs) c
+  tally-one-more cs c h =
+      sym (kept-up-is-tally (cs ++ (c ∷ [])) (omega (arith, length-append cs (c ∷ []))))
+      ∙ kept-up-one-more nothingPending cs c
+      ∙ ap (λ (t : Tally). with t c) (kept-up-is-tally cs (omega arith))

@@ -9,7 +9,8 @@ use Rattle.lent.specs.declared.Writing.the-variants.{Wrote}
 use Rattle.lent.proofs.Laws.{writing-short, written-short, writing-fits}
 use Rattle.lent.proofs.Pieces.{put, then, put-at-start}
 use Rattle.schedule.specs.Write.{tripleBytes}
-use Rattle.schedule.proofs.Behind.{few-bytes, pair-length, triple-length}
+use Rattle.numbers.proofs.WrittenGroups.{few-bytes}
+use Rattle.schedule.proofs.Behind.{pair-length, triple-length}
 use borrow.Author.Needs.{needs}
 use Rattle.schedule.proofs.write.triple.Statement.{statement}
 use Rattle.schedule.proofs.write.triple.Tie as tie

@@ -6,13 +6,10 @@ use mathlib.Core.Bool.{cond}
 use mathlib.Core.Option.{Option, none, some}
 use lib.ListN.{length, getD, set, replicate}
 use lib.Dec.{eqb}
-use Rattle.chain.specs.Chain.{following}
 use Rattle.tally.specs.Fifo.{Call, enqueue, dequeue}
 use Rattle.memory.specs.declared.Tail.{Tail}
 use Rattle.memory.specs.declared.Head.the-variants.{Plain}
 use Rattle.memory.specs.declared.Cell.{Cell}
-use Rattle.memory.specs.declared.Link.{Link}
-use Rattle.memory.specs.declared.Link.the-variants.{None, To}
 use Rattle.memory.specs.Ends.{sameHead}
 use Rattle.memory.specs.Memory.{Memory, cellAt}
 use Rattle.thread.specs.declared.Place.{Place}
@@ -32,15 +29,13 @@ use Rattle.call.specs.declared.entry.Entry.the-variants as entry
 use Rattle.call.specs.declared.answer.Outcome.{Outcome}
 use Rattle.call.specs.declared.answer.Outcome.the-variants as outcome
 use Rattle.call.specs.declared.answer.Future.{Future}
-use Rattle.call.specs.declared.answer.Verdict.{Verdict}
-use Rattle.call.specs.declared.answer.Verdict.the-variants.{Accepted, Refused}
 use Rattle.call.specs.declared.test.Needs.{Needs}
-use Rattle.call.specs.Refusals.{callable, steppable, foreign, lacking, callVerdict, enqueueNeeds, dequeueNeeds, futureEnqueueNeeds, futureDequeueNeeds, evaluateNeeds}
+use Rattle.call.specs.Refusals.{whereAccepted, callable, steppable, foreign, lacking, callVerdict, enqueueNeeds, dequeueNeeds, futureEnqueueNeeds, futureDequeueNeeds, evaluateNeeds}
 use Rattle.machine.specs.declared.Machine.{Machine}
 use Rattle.machine.specs.State.{rowAt, memoryOf, noFuture}
 use Rattle.machine.specs.Steps.{hop, stepOf, isMore}
-use Rattle.machine.specs.Entries.{deferEnqueue, deferDequeue}
-use Rattle.order.specs.Links.{next}
+use Rattle.machine.specs.Entries.{deferEnqueue, deferDequeue, apply}
+use Rattle.order.specs.Links.{ifTaken, nodesFrom}
 
 -- the nodes of a batch with an enqueue, and its calls in calling order
 pub record Batch : Type 0 where
@@ -98,15 +93,10 @@ noBatch = record { nodes = []; calls = [] }
 abbrev pub batchOf : Ghost → ℕ → Batch
 batchOf g a = getD (g .batches) a noBatch
 
--- a CAS of a link is taken where the link is none
-abbrev pub ifFree : {A : Type 0} → Link → A → A → A
-ifFree None taken not = taken
-ifFree (To x) taken not = not
-
 -- what a step adds: a taken e2 or a3 links, a taken b2 installs; the other steps add nothing
 abbrev pub enqueueGhost : Memory → Ghost → ℕ → EnqueueStep → Ghost
 enqueueGhost m g n E1 = g
-enqueueGhost m g n (E2 t) = ifFree (cellAt (m .links) (t .node) .link) (joins g t (n ∷ []) none) g
+enqueueGhost m g n (E2 t) = ifTaken (cellAt (m .links) (t .node) .link) (joins g t (n ∷ []) none) g
 enqueueGhost m g n (E3 t) = g
 enqueueGhost m g n (E4 t x) = g
 enqueueGhost m g n (E5 t x) = g
@@ -118,7 +108,7 @@ batchGhost m g b (B2 f) = cond (sameHead (m .ends .head) (Plain f)) (installs g 
 abbrev pub runGhost : Memory → Ghost → ℕ → RunStep → Ghost
 runGhost m g a A1 = g
 runGhost m g a (A2 t) = g
-runGhost m g a (A3 t) = ifFree (cellAt (m .links) (t .node) .link) (joins g t (batchOf g a .nodes) (some a)) g
+runGhost m g a (A3 t) = ifTaken (cellAt (m .links) (t .node) .link) (joins g t (batchOf g a .nodes) (some a)) g
 runGhost m g a (A4 t) = g
 runGhost m g a (A5 o) = g
 runGhost m g a (A6 s x left) = g
@@ -186,9 +176,9 @@ deferEnqueueGhost g t v = defers (owns g t) t (pendingOf g t ++ (enqueue v ∷ [
 abbrev pub deferDequeueGhost : Ghost → ℕ → Ghost
 deferDequeueGhost g t = defers g t (pendingOf g t ++ (dequeue ∷ []))
 
--- the nodes of a row's pending enqueues: as many as there are, from the first along the links
+-- the nodes of a row's pending enqueues
 abbrev pub pendingNodes : List Cell → Row → List ℕ
-pendingNodes links r = following (next links) (r .tally .enqueues) (some (r .first))
+pendingNodes links r = nodesFrom links (r .first) (r .tally .enqueues)
 
 -- the pending calls are set off as a batch; one with an enqueue has an announcement
 abbrev pub setOffGhost : Machine → Ghost → ℕ → Ghost
@@ -203,11 +193,6 @@ startEnqueueGhost m g t v =
 
 abbrev pub startDequeueGhost : Machine → Ghost → ℕ → Ghost
 startDequeueGhost m g t = cond (eqb (rowAt m t .count) 0) g (setOffGhost (deferDequeue m t) (deferDequeueGhost g t) t)
-
--- a refused entry adds nothing
-abbrev pub whereAccepted : Verdict → Ghost → Ghost → Ghost
-whereAccepted Accepted accepted g = accepted
-whereAccepted (Refused r) accepted g = g
 
 -- a step of the thread whose row is i, and Run
 abbrev pub stepOfGhost : Machine → Ghost → ℕ → Ghost
@@ -228,6 +213,7 @@ evaluateOwnGhost m g i outcome.Empty = g
 abbrev pub evaluateGhost : Machine → Ghost → ℕ → ℕ → Future → Ghost
 evaluateGhost m g t f x = cond (foreign f (x .owner) (m .used .futures) t) g (evaluateOwnGhost m g (t % 8) (x .outcome))
 
+-- a refused entry adds nothing
 abbrev pub callGhost : Machine → Ghost → ℕ → Needs → Ghost → Ghost
 callGhost m g t n accepted = whereAccepted (callVerdict t (m .threads) (rowAt m (t % 8)) (m .used) (m .nodes) n) accepted g
 
@@ -243,6 +229,11 @@ entryGhost m g (entry.Evaluate t f) =
     whereAccepted (callable t (m .threads) (rowAt m (t % 8) .place)) (evaluateGhost m g t f (getD (m .futures) (f % 512) noFuture)) g
 entryGhost m g (entry.Step t) = runGhostOf m g t 1
 entryGhost m g (entry.Run t n) = runGhostOf m g t n
+
+-- over a list of entries
+unfoldable pub ghostAfter : Machine → Ghost → List Entry → Ghost
+ghostAfter m g [] = g
+ghostAfter m g (e ∷ es) = ghostAfter (apply m e .machine) (entryGhost m g e) es
 
 -- a fresh machine has the dummy in its chain, which nobody linked
 abbrev pub freshGhost : Ghost

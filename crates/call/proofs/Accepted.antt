@@ -1,26 +1,21 @@
--- What is known of an entry that is accepted: the thread is idle, and what the entry needs is left. And the tally of one more pending call.
+-- What is known of what is accepted: of an entry, that its thread is idle and that what it needs is left; of a set-up, that its numbers are in range.
 use Prim.Native.Nat.{ℕ, _<_, _≤_}
-use mathlib.Core.Path.{_≡_, refl, sym, ap, _∙_}
-use mathlib.Core.Bool.{Bool, true, false, cond}
-use mathlib.Core.List.{List, [], _∷_, _++_}
+use mathlib.Core.Path.{_≡_, refl}
+use mathlib.Core.Bool.{Bool, true, false, cond, _||_, false≢true}
 use native.Mathlib.Omega.{arith}
-use lib.Dec.{leb}
-use lib.ListN.{length, length-append}
-use borrow.Author.Tests.{leb-false}
+use lib.Dec.{leb, ltb}
+use borrow.Author.Tests.{leb-false, ltb-false}
 use Rattle.refusal.specs.declared.Refusal.{Refusal}
-use Rattle.tally.specs.Fifo.{Call}
-use Rattle.tally.specs.Tally.{tallyOf, nothingPending, with, keptUp}
-use Rattle.tally.specs.declared.Tally.{Tally}
-use Rattle.tally.proofs.KeptUp.{kept-up-is-tally}
+use Rattle.refusal.specs.declared.Refusal.the-variants.{SetupOutOfRange}
 use Rattle.thread.specs.declared.Place.{Place}
 use Rattle.thread.specs.declared.Place.the-variants.{Idle, Enqueue, Dequeue, Batch, Dequeues, Running}
 use Rattle.thread.specs.Place.{idle}
 use Rattle.row.specs.declared.Row.{Row}
 use Rattle.call.specs.declared.answer.Verdict.{Verdict}
 use Rattle.call.specs.declared.answer.Verdict.the-variants.{Accepted, Refused}
 use Rattle.call.specs.declared.test.Used.{Used}
 use Rattle.call.specs.declared.test.Needs.{Needs}
-use Rattle.call.specs.Refusals.{first, callable, short, lacking, callVerdict}
+use Rattle.call.specs.Refusals.{first, callable, short, lacking, callVerdict, inRange}
 
 not-refused : {A : Type 0} {r : Refusal} → Refused r ≡ Accepted → A
 not-refused e = absurd (let z : _≡_ {A = ℕ} 0 1 = cc in omega arith)
@@ -37,23 +32,20 @@ true-where-accepted : (b : Bool) (r : Refusal) → cond b Accepted (Refused r) �
 true-where-accepted true r e = refl
 true-where-accepted false r e = not-refused e
 
-false-is-not-true : {A : Type 0} → false ≡ true → A
-false-is-not-true e = absurd (let z : _≡_ {A = ℕ} 0 1 = cc in omega arith)
-
 idle-place : (p : Place) → idle p ≡ true → p ≡ Idle
 idle-place Idle e = refl
-idle-place (Enqueue n x) e = false-is-not-true e
-idle-place (Dequeue x) e = false-is-not-true e
-idle-place (Batch b x) e = false-is-not-true e
-idle-place (Dequeues x) e = false-is-not-true e
-idle-place (Running a x k) e = false-is-not-true e
+idle-place (Enqueue n x) e = absurd (false≢true e)
+idle-place (Dequeue x) e = absurd (false≢true e)
+idle-place (Batch b x) e = absurd (false≢true e)
+idle-place (Dequeues x) e = absurd (false≢true e)
+idle-place (Running a x k) e = absurd (false≢true e)
 
 pub callable-is-idle : (t threads : ℕ) (p : Place) → callable t threads p ≡ Accepted → p ≡ Idle
 callable-is-idle t threads p e = idle-place p (true-where-accepted (idle p) _ (passed (leb threads t) _ _ e .1))
 
 is-left : (needed : Bool) (used all : ℕ) → short needed used all ≡ false → needed ≡ true → used < all
 is-left true used all e n = leb-false all used e
-is-left false used all e n = false-is-not-true n
+is-left false used all e n = absurd (false≢true n)
 
 -- what is needed is left
 pub record Left (n : Needs) (u : Used) (nodes pending : ℕ) : Type 0 where
@@ -81,14 +73,14 @@ call-accepted t threads r u nodes n e =
     let w = both-accepted (callable t threads (r .place)) (lacking n u nodes (r .count)) e in
     (callable-is-idle t threads (r .place) (w .0), nothing-lacks n u nodes (r .count) (w .1))
 
--- one more pending call, kept up in the tally
-kept-up-one-more : {A : Type 0} (t : Tally) (cs : List (Call A)) (c : Call A) → keptUp t (cs ++ (c ∷ [])) ≡ with (keptUp t cs) c
-unfolding keptUp
-kept-up-one-more t [] c = refl
-kept-up-one-more t (x ∷ cs) c = kept-up-one-more (with t x) cs c
-
-pub tally-one-more : {A : Type 0} (cs : List (Call A)) (c : Call A) → length cs ≤ 32 → tallyOf (cs ++ (c ∷ [])) ≡ with (tallyOf cs) c
-tally-one-more cs c h =
-    sym (kept-up-is-tally (cs ++ (c ∷ [])) (omega (arith, length-append cs (c ∷ []))))
-    ∙ kept-up-one-more nothingPending cs c
-    ∙ ap (λ (t : Tally). with t c) (kept-up-is-tally cs (omega arith))
+pub in-range : (threads nodes : ℕ) → inRange threads nodes ≡ Accepted → (threads ≤ 8) × (nodes ≤ 512)
+in-range threads nodes ok =
+    let w = none-of (ltb threads 1) (ltb 8 threads) (ltb nodes 2) (ltb 512 nodes) ok in
+    (ltb-false 8 threads (w .0), ltb-false 512 nodes (w .1))
+  where
+    none-of : (a b c d : Bool) → cond (a || b || c || d) (Refused SetupOutOfRange) Accepted ≡ Accepted → (b ≡ false) × (d ≡ false)
+    none-of true b c d e = not-refused e
+    none-of false true c d e = not-refused e
+    none-of false false true d e = not-refused e
+    none-of false false false true e = not-refused e
+    none-of false false false false e = (refl, refl)
