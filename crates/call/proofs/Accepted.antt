@@ -40,6 +40,9 @@ idle-place (Batch b x) e = absurd (false≢true e)
 idle-place (Dequeues x) e = absurd (false≢true e)
 idle-place (Running a x k) e = absurd (false≢true e)
 
+pub callable-is-below : (t threads : ℕ) (p : Place) → callable t threads p ≡ Accepted → t < threads
+callable-is-below t threads p e = leb-false threads t (passed (leb threads t) _ _ e .0)
+
 pub callable-is-idle : (t threads : ℕ) (p : Place) → callable t threads p ≡ Accepted → p ≡ Idle
 callable-is-idle t threads p e = idle-place p (true-where-accepted (idle p) _ (passed (leb threads t) _ _ e .1))
 

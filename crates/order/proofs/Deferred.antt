@@ -71,7 +71,7 @@ module _ (m : Machine) (g : Ghost) (ok : Ok m g) (i : ℕ) (lt : i < 8) (idle : 
   pub defer-dequeue-keeps : rowAt m i .count < 32 → Ok (deferDequeue m i) (deferDequeueGhost g i)
   unfolding deferDequeue
   defer-dequeue-keeps few =
-      put-back m g ok i lt (deferDequeue m i) g′ row refl refl (length-set (g .pending) i _)
+      put-back m g ok i lt (deferDequeue m i) g′ row refl refl refl (length-set (g .pending) i _)
       (deferred-inv s g i cs (ok .inv)) (deferred-grows s g i cs) (λ u ne. deferred-spares s g i cs u ne)
       (record {
         tallied = more-tallied g i r row dequeue tallied-here few room-for-calls refl refl;
@@ -173,11 +173,15 @@ module _ (m : Machine) (g : Ghost) (ok : Ok m g) (i : ℕ) (lt : i < 8) (idle : 
     unfolding deferEnqueue linkedBehind
     nodes-same = refl
 
+    threads-same : deferEnqueue m i v .threads ≡ m .threads
+    unfolding deferEnqueue linkedBehind
+    threads-same = refl
+
     keeps-as : (s′ : Shared) → sharedOf (deferEnqueue m i v) ≡ s′ → Inv s′ g₁ → Grows (sharedOf m) g s′ g₁ → ((u : ℕ) → u ≢ i → Spares (sharedOf m) g s′ g₁ u)
         → Knows s′ g₂ i row → Ok (deferEnqueue m i v) g₂
     keeps-as s′ e inv grows spares knows =
         let cs = pendingOf g i ++ (enqueue (v .value) ∷ []) in
-        put-back-as m g ok i lt (deferEnqueue m i v) g₂ s′ e row row-put nodes-same longer (deferred-inv s′ g₁ i cs inv) (grows-then-grows grows (deferred-grows s′ g₁ i cs))
+        put-back-as m g ok i lt (deferEnqueue m i v) g₂ s′ e row row-put nodes-same threads-same longer (deferred-inv s′ g₁ i cs inv) (grows-then-grows grows (deferred-grows s′ g₁ i cs))
         (λ u ne. spares-then-spares (spares u ne) (deferred-spares s′ g₁ i cs u ne)) knows
 
     by-nodes : (l : List ℕ) → Private (sharedOf m) g i l → length l ≡ rowAt m i .tally .enqueues → ((n : ℕ) → At l 0 n → n ≡ rowAt m i .first)

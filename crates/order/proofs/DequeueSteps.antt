@@ -1,12 +1,13 @@
 -- Dequeue, d1 to d3, and a batch of dequeues only, q1 to q3: they read along the chain and move the head to a node of it.
 use Prim.Native.Nat.{ℕ, suc, _+_}
 use mathlib.Core.Path.{_≡_, refl, sym, subst}
-use mathlib.Core.Bool.{Bool, true, false, cond}
+use mathlib.Core.Bool.{Bool, true, false}
 use native.Mathlib.Omega.{arith}
 use lib.Dec.{eqb, ltb}
 use borrow.Author.Tests.{eqb-true}
 use Rattle.chain.specs.Positions.{At}
 use Rattle.chain.proofs.Positions.{within}
+use Rattle.refusal.proofs.Tests.{either-way}
 use Rattle.memory.specs.declared.Front.{Front}
 use Rattle.memory.specs.declared.Head.{Head}
 use Rattle.memory.specs.declared.Head.the-variants.{Plain, Announced}
@@ -21,8 +22,7 @@ use Rattle.thread.specs.declared.dequeues.Walk.{Walk}
 use Rattle.thread.specs.declared.dequeues.DequeuesStep.{DequeuesStep}
 use Rattle.thread.specs.declared.dequeues.DequeuesStep.the-variants.{Q1, Q2, Q3}
 use Rattle.thread.specs.Dequeue.{dequeueAccess, dequeueAfter, afterD1, afterD2, afterD3}
-use Rattle.thread.specs.Dequeues.{dequeuesAccess, dequeuesAfter, afterQ1, afterQ2, afterQ3, oneFurther, dequeuesAt}
-use Rattle.thread.specs.declared.After.the-variants as afterwards
+use Rattle.thread.specs.Dequeues.{dequeuesAccess, dequeuesAfter, afterQ1, afterQ2, afterQ3, oneFurther}
 use Rattle.row.specs.declared.Row.{Row}
 use Rattle.order.proofs.Ghost.{Ghost}
 use Rattle.order.proofs.Shared.{Shared, headIf}
@@ -83,19 +83,11 @@ module _ (s : Shared) (g : Ghost) (i : Inv s g) (t : ℕ) (r : Row) where
       (k .0, subst (λ (n : ℕ). At (g .chain) n x) here p)
 
   after-q2 : (w : Walk) → Walks g w → r .tally .enqueues ≡ 0 → (v : Link) → cellAt (s .links) (w .at) .link ≡ v → KnowsAfter s g t r (afterQ2 w v (r .tally .dequeues))
-  after-q2 w k only None e = none-found (eqb (w .taken) 0) refl
-    where
-      none-found : (b : Bool) → eqb (w .taken) 0 ≡ b → KnowsAfter s g t r (cond b (afterwards.PairDequeues (w .front .node) 0) (dequeuesAt (Q3 w)))
-      none-found true q = taken w k only 0 (sym (eqb-true (w .taken) 0 q))
-      none-found false q = (k, only)
-  after-q2 w k only (To x) e = goes-on (ltb (oneFurther w x .taken) (r .tally .dequeues))
+  after-q2 w k only None e = either-way (KnowsAfter s g t r) (eqb (w .taken) 0) (λ q. taken w k only 0 (sym (eqb-true (w .taken) 0 q))) (λ q. (k, only))
+  after-q2 w k only (To x) e = either-way (KnowsAfter s g t r) (ltb (oneFurther w x .taken) (r .tally .dequeues)) (λ q. (on, only)) (λ q. (on, only))
     where
       on : Walks g (oneFurther w x)
       on = one-further-on w x k e
-
-      goes-on : (b : Bool) → KnowsAfter s g t r (cond b (dequeuesAt (Q2 (oneFurther w x))) (dequeuesAt (Q3 (oneFurther w x))))
-      goes-on true = (on, only)
-      goes-on false = (on, only)
 
   after-q3 : (w : Walk) → Walks g w → r .tally .enqueues ≡ 0 → (x : Front) (b : Bool) → KnowsAfter (headIf b s (Plain x)) g t r (afterQ3 w b)
   after-q3 w k only x true = taken w k only (w .taken) refl

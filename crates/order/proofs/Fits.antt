@@ -1,6 +1,6 @@
 -- No remainder, wrap or cut-off subtraction that makes the code total is ever met: the nodes that steps name are in the chain or were handed out
 -- to their thread, the counts are positions in the chain, which has no more than 512 nodes, and a batch is of at most 32 calls.
-use Prim.Native.Nat.{ℕ, _-_, _<_, _≤_}
+use Prim.Native.Nat.{ℕ, _-_, _<_}
 use mathlib.Core.Path.{ap}
 use native.Mathlib.Omega.{arith}
 use Rattle.chain.specs.Positions.{At, In}
@@ -110,11 +110,11 @@ module _ (m : Machine) (g : Ghost) (ok : Ok m g) where
         asked = flags .asked t lt;
       }
 
-  pub fits : Flags m g → m .threads ≤ 8 → Fits m
-  fits flags threads = record {
+  pub fits : Flags m g → Fits m
+  fits flags = record {
     places = λ t lt. place-fits t (rowAt m t) (rowAt m t .place) (ok .knows t lt .place);
     rows = row-fits flags;
-    threads = threads;
+    threads = ok .threads;
     nodes = ok .inv .chain .room;
     futures = flags .room;
     announcements = ok .inv .batches .room;

@@ -1,6 +1,6 @@
 -- What stands beside the machine in the proof: what has been linked, by whom, and what each thread has been handed out and has deferred.
--- It is computed from the steps taken and no step looks at it.
-use Prim.Native.Nat.{ℕ, zero, suc, _+_, _%_}
+-- It is computed from the events and none looks at it.
+use Prim.Native.Nat.{ℕ, _+_}
 use mathlib.Core.List.{List, [], _∷_, _++_}
 use mathlib.Core.Bool.{cond}
 use mathlib.Core.Option.{Option, none, some}
@@ -24,18 +24,11 @@ use Rattle.thread.specs.declared.batch.BatchStep.the-variants.{B1, B2}
 use Rattle.thread.specs.declared.running.RunStep.{RunStep}
 use Rattle.thread.specs.declared.running.RunStep.the-variants.{A1, A2, A3, A4, A5, A6, A7, A8}
 use Rattle.row.specs.declared.Row.{Row}
-use Rattle.call.specs.declared.entry.Entry.{Entry}
-use Rattle.call.specs.declared.entry.Entry.the-variants as entry
-use Rattle.call.specs.declared.answer.Outcome.{Outcome}
-use Rattle.call.specs.declared.answer.Outcome.the-variants as outcome
-use Rattle.call.specs.declared.answer.Future.{Future}
-use Rattle.call.specs.declared.test.Needs.{Needs}
-use Rattle.call.specs.Refusals.{whereAccepted, callable, steppable, foreign, lacking, callVerdict, enqueueNeeds, dequeueNeeds, futureEnqueueNeeds, futureDequeueNeeds, evaluateNeeds}
 use Rattle.machine.specs.declared.Machine.{Machine}
-use Rattle.machine.specs.State.{rowAt, memoryOf, noFuture}
-use Rattle.machine.specs.Steps.{hop, stepOf, isMore}
-use Rattle.machine.specs.Entries.{deferEnqueue, deferDequeue, apply}
+use Rattle.machine.specs.State.{rowAt, memoryOf}
+use Rattle.machine.specs.Steps.{hop}
 use Rattle.order.specs.Links.{ifTaken, nodesFrom}
+use Rattle.order.specs.Events.{Event, EnqueueStarts, DequeueStarts, EnqueueDeferred, DequeueDeferred, BatchSetOff, FutureAsked, StepTaken}
 
 -- the nodes of a batch with an enqueue, and its calls in calling order
 pub record Batch : Type 0 where
@@ -144,7 +137,7 @@ endGhost g t (afterwards.Item x) = g
 endGhost g t (afterwards.Pair x) = defers g t []
 endGhost g t (afterwards.PairDequeues x s) = defers g t []
 
--- what an entry adds. A node is handed out to thread t; an announcement is, for a batch.
+-- what the other events add. A node is handed out to thread t; an announcement is, for a batch.
 abbrev pub owns : Ghost → ℕ → Ghost
 owns g t = record {
   chain = g .chain;
@@ -181,59 +174,24 @@ abbrev pub pendingNodes : List Cell → Row → List ℕ
 pendingNodes links r = nodesFrom links (r .first) (r .tally .enqueues)
 
 -- the pending calls are set off as a batch; one with an enqueue has an announcement
+abbrev pub pendingBatch : Machine → Ghost → ℕ → Batch
+pendingBatch m g t = record { nodes = pendingNodes (m .links) (rowAt m t); calls = pendingOf g t }
+
 abbrev pub setOffGhost : Machine → Ghost → ℕ → Ghost
-setOffGhost m g t =
-    cond (eqb (rowAt m t .tally .enqueues) 0) g
-    (announces g t (record { nodes = pendingNodes (m .links) (rowAt m t); calls = pendingOf g t }))
+setOffGhost m g t = cond (eqb (rowAt m t .tally .enqueues) 0) g (announces g t (pendingBatch m g t))
 
-abbrev pub startEnqueueGhost : Machine → Ghost → ℕ → ℕ → Ghost
-startEnqueueGhost m g t v =
-    cond (eqb (rowAt m t .count) 0) (owns g t)
-    (setOffGhost (deferEnqueue m t (record { value = v })) (deferEnqueueGhost g t v) t)
-
-abbrev pub startDequeueGhost : Machine → Ghost → ℕ → Ghost
-startDequeueGhost m g t = cond (eqb (rowAt m t .count) 0) g (setOffGhost (deferDequeue m t) (deferDequeueGhost g t) t)
-
--- a step of the thread whose row is i, and Run
+-- a step of the thread whose row is i
 abbrev pub stepOfGhost : Machine → Ghost → ℕ → Ghost
 stepOfGhost m g i = endGhost (stepGhost (memoryOf m) g (rowAt m i .place)) i (hop m i .after)
 
-unfoldable pub advanceGhost : ℕ → Machine → Ghost → ℕ → Ghost
-advanceGhost zero m g i = g
-advanceGhost (suc n) m g i = cond (isMore (stepOf m i .answer)) (advanceGhost n (stepOf m i .machine) (stepOfGhost m g i) i) (stepOfGhost m g i)
-
--- Evaluate of a future that is not done sets the batch off
-abbrev pub evaluateOwnGhost : Machine → Ghost → ℕ → Outcome → Ghost
-evaluateOwnGhost m g i outcome.Waiting =
-    whereAccepted (lacking (evaluateNeeds (rowAt m i)) (m .used) (m .nodes) (rowAt m i .count)) (setOffGhost m g i) g
-evaluateOwnGhost m g i outcome.Ok = g
-evaluateOwnGhost m g i (outcome.Item v) = g
-evaluateOwnGhost m g i outcome.Empty = g
-
-abbrev pub evaluateGhost : Machine → Ghost → ℕ → ℕ → Future → Ghost
-evaluateGhost m g t f x = cond (foreign f (x .owner) (m .used .futures) t) g (evaluateOwnGhost m g (t % 8) (x .outcome))
-
--- a refused entry adds nothing
-abbrev pub callGhost : Machine → Ghost → ℕ → Needs → Ghost → Ghost
-callGhost m g t n accepted = whereAccepted (callVerdict t (m .threads) (rowAt m (t % 8)) (m .used) (m .nodes) n) accepted g
-
-abbrev pub runGhostOf : Machine → Ghost → ℕ → ℕ → Ghost
-runGhostOf m g t n = whereAccepted (steppable t (m .threads) (rowAt m (t % 8) .place)) (advanceGhost n m g (t % 8)) g
-
-unfoldable pub entryGhost : Machine → Ghost → Entry → Ghost
-entryGhost m g (entry.Enqueue t v) = callGhost m g t (enqueueNeeds (rowAt m (t % 8))) (startEnqueueGhost m g (t % 8) v)
-entryGhost m g (entry.Dequeue t) = callGhost m g t (dequeueNeeds (rowAt m (t % 8))) (startDequeueGhost m g (t % 8))
-entryGhost m g (entry.FutureEnqueue t v) = callGhost m g t futureEnqueueNeeds (deferEnqueueGhost g (t % 8) v)
-entryGhost m g (entry.FutureDequeue t) = callGhost m g t futureDequeueNeeds (deferDequeueGhost g (t % 8))
-entryGhost m g (entry.Evaluate t f) =
-    whereAccepted (callable t (m .threads) (rowAt m (t % 8) .place)) (evaluateGhost m g t f (getD (m .futures) (f % 512) noFuture)) g
-entryGhost m g (entry.Step t) = runGhostOf m g t 1
-entryGhost m g (entry.Run t n) = runGhostOf m g t n
-
--- over a list of entries
-unfoldable pub ghostAfter : Machine → Ghost → List Entry → Ghost
-ghostAfter m g [] = g
-ghostAfter m g (e ∷ es) = ghostAfter (apply m e .machine) (entryGhost m g e) es
+abbrev pub ghostDoes : Machine → Ghost → Event → Ghost
+ghostDoes m g (EnqueueStarts i v) = owns g i
+ghostDoes m g (DequeueStarts i) = g
+ghostDoes m g (EnqueueDeferred i v) = deferEnqueueGhost g i v
+ghostDoes m g (DequeueDeferred i) = deferDequeueGhost g i
+ghostDoes m g (BatchSetOff i f) = setOffGhost m g i
+ghostDoes m g (FutureAsked i f) = g
+ghostDoes m g (StepTaken i) = stepOfGhost m g i
 
 -- a fresh machine has the dummy in its chain, which nobody linked
 abbrev pub freshGhost : Ghost

@@ -3,7 +3,7 @@
 -- where the batch was linked; as there is one such place, whoever sets it again sets the same.
 use Prim.Native.Nat.{ℕ, suc, _<_}
 use mathlib.Core.Path.{_≡_, refl, sym, ap, _∙_, subst}
-use mathlib.Core.Bool.{Bool, true, false}
+use mathlib.Core.Bool.{Bool}
 use mathlib.Core.Option.{some}
 use mathlib.Core.Logic.{inl, ⊎-elim, _≢_}
 use native.Mathlib.Omega.{arith}
@@ -11,6 +11,7 @@ use native.Mathlib.Decide.{ℕ-discrete}
 use lib.ListN.{length-set}
 use Rattle.chain.specs.Positions.{At, In}
 use Rattle.chain.proofs.Positions.{one-element, within}
+use Rattle.refusal.proofs.Tests.{either-way}
 use Rattle.memory.specs.declared.Tail.{Tail}
 use Rattle.memory.specs.declared.Front.{Front}
 use Rattle.memory.specs.declared.Head.{Head}
@@ -46,16 +47,11 @@ head-grows s g h = record {
 pub head-spares : (s : Shared) (g : Ghost) (h : Head) (u : ℕ) → Spares s g (withHead s h) g u
 head-spares s g h u = record { mine = λ n w. w; link = λ n w. refl; mineToo = λ b w. w; announcement = λ b w. refl; pending = refl }
 
--- what holds of the state with the new head, if the CAS was taken, and of the old one
-taken-or-not : (P : Shared → Type 0) (s : Shared) (h : Head) (b : Bool) → (b ≡ true → P (withHead s h)) → P s → P (headIf b s h)
-taken-or-not P s h true new old = new refl
-taken-or-not P s h false new old = old
-
 pub head-cas-grows : (s : Shared) (g : Ghost) (h : Head) (b : Bool) → Grows s g (headIf b s h) g
-head-cas-grows s g h b = taken-or-not (λ s′. Grows s g s′ g) s h b (λ e. head-grows s g h) quiet
+head-cas-grows s g h b = either-way (λ s′. Grows s g s′ g) b (λ e. head-grows s g h) (λ e. quiet)
 
 pub head-cas-spares : (s : Shared) (g : Ghost) (h : Head) (b : Bool) (u : ℕ) → Spares s g (headIf b s h) g u
-head-cas-spares s g h b u = taken-or-not (λ s′. Spares s g s′ g u) s h b (λ e. head-spares s g h u) spared
+head-cas-spares s g h b u = either-way (λ s′. Spares s g s′ g u) b (λ e. head-spares s g h u) (λ e. spared)
 
 module _ {s : Shared} {g : Ghost} (i : Inv s g) (x : Front) (is : FrontAt g x) where
   -- the head becomes a node; what waited for an announcement there waits no more
@@ -90,7 +86,7 @@ module _ {s : Shared} {g : Ghost} (i : Inv s g) (x : Front) (is : FrontAt g x) w
 
   pub head-cas-inv : (f : Front) (b : Bool) → sameHead (s .head) (Plain f) ≡ b → Inv (headIf b s (Plain x)) g
   head-cas-inv f b same =
-      taken-or-not (λ s′. Inv s′ g) s (Plain x) b (λ e. head-moved f (same-head-is-plain (s .head) f (same ∙ e))) i
+      either-way (λ s′. Inv s′ g) b (λ e. head-moved f (same-head-is-plain (s .head) f (same ∙ e))) (λ e. i)
 
   -- a7: from an announcement, whose batch the tail is past, to a node
   pub head-freed : (a : ℕ) → s .head ≡ Announced a → Past s g a → Inv (withHead s (Plain x)) g
@@ -106,7 +102,7 @@ module _ {s : Shared} {g : Ghost} (i : Inv s g) (x : Front) (is : FrontAt g x) w
 
   pub head-freed-inv : (a : ℕ) (b : Bool) → sameHead (s .head) (Announced a) ≡ b → Past s g a → Inv (headIf b s (Plain x)) g
   head-freed-inv a b same past =
-      taken-or-not (λ s′. Inv s′ g) s (Plain x) b (λ e. head-freed a (same-head-is-announced (s .head) a (same ∙ e)) past) i
+      either-way (λ s′. Inv s′ g) b (λ e. head-freed a (same-head-is-announced (s .head) a (same ∙ e)) past) (λ e. i)
 
 abbrev oldTailOf : Shared → ℕ → OldTail
 oldTailOf s a = announcementAt (s .announcements) a .«old_tail»

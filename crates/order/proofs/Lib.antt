@@ -27,7 +27,8 @@ pub mod Deferred
 pub mod SettingOff
 pub mod ContentsWalk
 pub mod AbstractHead
-pub mod Entries
+pub mod Events
+pub mod EventsKeep
 pub mod PairingWalks
 pub mod PairingSteps
 pub mod PairingCounts
@@ -35,6 +36,6 @@ pub mod Flags
 pub mod FlagsKept
 pub mod Reached
 pub mod LinkedSoFar
-pub mod SameThreads
 pub mod Fits
+pub mod Ran
 pub mod Promises

@@ -1,18 +1,17 @@
 -- What stands beside the machine tells of the link steps taken: its chain is the linked nodes, and link step j ended where the nodes of the
 -- first j link steps end.
-use Prim.Native.Nat.{ℕ, zero, suc, _+_, _%_, _<_, _≤_}
+use Prim.Native.Nat.{ℕ, zero, suc, _+_, _<_, _≤_}
 use mathlib.Core.Path.{_≡_, refl, sym, ap, _∙_, subst}
-use mathlib.Core.Bool.{Bool, true, false, cond}
 use mathlib.Core.List.{List, [], _∷_, _++_, append-assoc, append-nil}
 use mathlib.Core.Option.{Option, none, some}
 use native.Mathlib.Omega.{arith}
 use native.Mathlib.Decide.{decLe}
-use lib.Dec.{eqb}
-use lib.ListN.{length, getD, take, length-append}
+use lib.ListN.{length, take, length-append}
 use lib.Seq.{take-all}
 use Rattle.chain.specs.Positions.{at, At, In}
 use Rattle.chain.proofs.Positions.{within, stays, at-the-end, length-one-more}
 use Rattle.chain.proofs.Following.{meets-the-rest, none-is-the-last}
+use Rattle.refusal.proofs.Tests.{either-way}
 use Rattle.memory.specs.declared.Tail.{Tail}
 use Rattle.memory.specs.declared.Head.the-variants.{Plain}
 use Rattle.memory.specs.declared.Link.{Link}
@@ -28,31 +27,23 @@ use Rattle.thread.specs.declared.After.the-variants as afterwards
 use Rattle.thread.specs.declared.enqueue.EnqueueStep.the-variants.{E1, E2, E3, E4, E5}
 use Rattle.thread.specs.declared.batch.BatchStep.the-variants.{B1, B2}
 use Rattle.thread.specs.declared.running.RunStep.the-variants.{A1, A2, A3, A4, A5, A6, A7, A8}
-use Rattle.call.specs.declared.test.Needs.{Needs}
-use Rattle.call.specs.declared.answer.Future.{Future}
-use Rattle.call.specs.declared.answer.Outcome.{Outcome}
-use Rattle.call.specs.declared.answer.Outcome.the-variants as outcome
-use Rattle.call.specs.declared.answer.Verdict.{Verdict}
-use Rattle.call.specs.declared.answer.Verdict.the-variants.{Accepted, Refused}
 use Rattle.call.specs.declared.entry.Entry.{Entry}
-use Rattle.call.specs.declared.entry.Entry.the-variants as entry
-use Rattle.call.specs.Refusals.{whereAccepted, callable, steppable, foreign, lacking, callVerdict, enqueueNeeds, dequeueNeeds, futureEnqueueNeeds, futureDequeueNeeds, evaluateNeeds}
 use Rattle.row.specs.declared.Row.{Row}
 use Rattle.machine.specs.declared.Machine.{Machine}
-use Rattle.machine.specs.State.{rowAt, memoryOf, noFuture}
-use Rattle.machine.specs.Steps.{hop, stepOf, isMore}
-use Rattle.machine.specs.Entries.{deferEnqueue, deferDequeue, apply}
+use Rattle.machine.specs.State.{rowAt, memoryOf}
+use Rattle.machine.specs.Steps.{hop}
 use Rattle.order.specs.Links.{ifTaken}
-use Rattle.order.proofs.Ghost.{Ghost, batchOf, joins, installs, owns, stepGhost, endGhost, setOffGhost, deferEnqueueGhost, deferDequeueGhost, startEnqueueGhost, startDequeueGhost, stepOfGhost, advanceGhost, evaluateOwnGhost, evaluateGhost, callGhost, entryGhost, freshGhost, ghostAfter}
-use Rattle.order.specs.Reached.{after}
-use Rattle.order.specs.Promises.{batchNodes, stepLinks, advanceLinks, entryLinks, linkSteps, together, linked}
+use Rattle.order.specs.Events.{Event, EnqueueStarts, DequeueStarts, EnqueueDeferred, DequeueDeferred, BatchSetOff, FutureAsked, StepTaken, does, keptBeside, events}
+use Rattle.order.proofs.Events.{Finds, over-entries, both, kept-both}
+use Rattle.order.proofs.Ghost.{Ghost, batchOf, joins, stepGhost, endGhost, stepOfGhost, ghostDoes, freshGhost}
+use Rattle.order.specs.Promises.{batchNodes, stepLinks, alsoLinks, together, linked}
 use Rattle.order.proofs.Shared.{sharedOf, next, led}
 use Rattle.order.proofs.Knows.{TailRead, KnowsRun, KnowsResume, KnowsAt}
 use Rattle.order.proofs.RunReads.{not-linked-yet}
 use Rattle.order.proofs.RunSteps.{own-batch, asks}
 use Rattle.order.proofs.Steps.{Ok}
-use Rattle.order.proofs.MachineSteps.{step-keeps}
-use Rattle.order.proofs.Entries.{entry-keeps}
+use Rattle.order.proofs.SettingOff.{set-off-either}
+use Rattle.order.proofs.Reached.{Holds, holds-sized, event-holds}
 
 pub record Tells (g : Ghost) (steps : List (List ℕ)) : Type 0 where
   pub chain : g .chain ≡ linked steps
@@ -137,11 +128,7 @@ module _ (m : Machine) (g : Ghost) (ok : Ok m g) (i : ℕ) (lt : i < 8) (steps :
   place-tells r (Enqueue n (E5 t x)) k = nothing-more steps h
   place-tells r (Dequeue x) k = nothing-more steps h
   place-tells r (place.Batch b B1) k = nothing-more steps h
-  place-tells r (place.Batch b (B2 f)) k = nothing-more steps (either (sameHead (m .ends .head) (Plain f)))
-    where
-      either : (c : Bool) → Tells (cond c (installs g b) g) steps
-      either true = same-tells refl refl h
-      either false = h
+  place-tells r (place.Batch b (B2 f)) k = nothing-more steps (either-way (λ (x : Ghost). Tells x steps) (sameHead (m .ends .head) (Plain f)) (λ e. same-tells refl refl h) (λ e. h))
   place-tells r (Dequeues x) k = nothing-more steps h
   place-tells r (Running a A1 k) w = nothing-more steps h
   place-tells r (Running a (A2 t) k) w = nothing-more steps h
@@ -163,84 +150,27 @@ module _ (m : Machine) (g : Ghost) (ok : Ok m g) (i : ℕ) (lt : i < 8) (steps :
       ended (afterwards.Pair x) now = same-tells refl refl now
       ended (afterwards.PairDequeues x n) now = same-tells refl refl now
 
--- Run
-advance-tells : (n : ℕ) (m : Machine) (g : Ghost) → Ok m g → (i : ℕ) → i < 8 → (steps : List (List ℕ)) → Tells g steps → Tells (advanceGhost n m g i) (steps ++ advanceLinks n m i)
-unfolding advanceGhost advanceLinks
-advance-tells zero m g ok i lt steps h = nothing-more steps h
-advance-tells (suc n) m g ok i lt steps h =
-    let first = step-tells m g ok i lt steps h in
-    let rest = advance-tells n (stepOf m i .machine) (stepOfGhost m g i) (step-keeps m g ok i lt) i lt _ first in
-    subst (Tells _) (append-assoc steps (stepLinks (memoryOf m) (rowAt m i .place)) _) (by (isMore (stepOf m i .answer)) _ first rest)
-  where
-    by : (b : Bool) (steps′ : List (List ℕ)) → Tells (stepOfGhost m g i) steps′
-        → Tells (advanceGhost n (stepOf m i .machine) (stepOfGhost m g i) i) (steps′ ++ advanceLinks n (stepOf m i .machine) i)
-        → Tells (cond b (advanceGhost n (stepOf m i .machine) (stepOfGhost m g i) i) (stepOfGhost m g i)) (steps′ ++ cond b (advanceLinks n (stepOf m i .machine) i) [])
-    by true steps′ first rest = rest
-    by false steps′ first rest = nothing-more steps′ first
-
--- calls that start or are deferred link nothing
-accepted-tells : (v : Verdict) (g g′ : Ghost) (steps : List (List ℕ)) → Tells g steps → Tells g′ steps → Tells (whereAccepted v g′ g) steps
-accepted-tells Accepted g g′ steps h h′ = h′
-accepted-tells (Refused r) g g′ steps h h′ = h
-
-either-tells : (b : Bool) (g g′ : Ghost) (steps : List (List ℕ)) → Tells g steps → Tells g′ steps → Tells (cond b g g′) steps
-either-tells true g g′ steps h h′ = h
-either-tells false g g′ steps h h′ = h′
-
-set-off-tells : (m : Machine) (g : Ghost) (i : ℕ) (steps : List (List ℕ)) → Tells g steps → Tells (setOffGhost m g i) steps
-set-off-tells m g i steps h = either-tells (eqb (rowAt m i .tally .enqueues) 0) g _ steps h (same-tells refl refl h)
-
-own-tells : (m : Machine) (g : Ghost) (i : ℕ) (o : Outcome) (steps : List (List ℕ)) → Tells g steps → Tells (evaluateOwnGhost m g i o) steps
-own-tells m g i outcome.Waiting steps h =
-    accepted-tells (lacking (evaluateNeeds (rowAt m i)) (m .used) (m .nodes) (rowAt m i .count)) g _ steps h (set-off-tells m g i steps h)
-own-tells m g i outcome.Ok steps h = h
-own-tells m g i (outcome.Item v) steps h = h
-own-tells m g i outcome.Empty steps h = h
-
 module _ (m : Machine) (g : Ghost) (ok : Ok m g) (steps : List (List ℕ)) (h : Tells g steps) where
-  run-tells : (t n : ℕ) (v : Verdict) → Tells (whereAccepted v (advanceGhost n m g (t % 8)) g) (steps ++ whereAccepted v (advanceLinks n m (t % 8)) [])
-  run-tells t n Accepted = advance-tells n m g ok (t % 8) (omega arith) steps h
-  run-tells t n (Refused r) = nothing-more steps h
+  event-tells : (x : Event) → Finds m x → Tells (ghostDoes m g x) (alsoLinks m steps x)
+  event-tells (EnqueueStarts i v) finds = nothing-more steps (same-tells refl refl h)
+  event-tells (DequeueStarts i) finds = nothing-more steps h
+  event-tells (EnqueueDeferred i v) finds = nothing-more steps (same-tells refl refl h)
+  event-tells (DequeueDeferred i) finds = nothing-more steps (same-tells refl refl h)
+  event-tells (BatchSetOff i f) finds = nothing-more steps (set-off-either (λ (x : Machine) (y : Ghost). Tells y steps) m g i f (λ e. h) (λ ne. same-tells refl refl h))
+  event-tells (FutureAsked i f) finds = nothing-more steps h
+  event-tells (StepTaken i) finds = step-tells m g ok i finds steps h
 
-  call-tells : (t : ℕ) (n : Needs) (g′ : Ghost) → Tells g′ steps → Tells (callGhost m g t n g′) steps
-  call-tells t n g′ h′ = accepted-tells (callVerdict t (m .threads) (rowAt m (t % 8)) (m .used) (m .nodes) n) g g′ steps h h′
+pub after-tells : (es : List Entry) (m : Machine) (g : Ghost) → Holds m g → (steps : List (List ℕ)) → Tells g steps
+    → Tells (keptBeside ghostDoes m g (events m es)) (keptBeside alsoLinks m steps (events m es))
+after-tells es m g holds steps h =
+    subst (λ (p : Ghost × List (List ℕ)). Tells (p .0) (p .1)) (kept-both ghostDoes alsoLinks (events m es) m g steps)
+    (over-entries (both ghostDoes alsoLinks) Now (λ m p now. holds-sized m (p .0) (now .0)) still es m (g, steps) (holds, h) .1)
+  where
+    Now : Machine → Ghost × List (List ℕ) → Type 0
+    Now m p = Holds m (p .0) × Tells (p .0) (p .1)
 
-  deferred-enqueue-tells : (i v : ℕ) → Tells (deferEnqueueGhost g i v) steps
-  deferred-enqueue-tells i v = same-tells refl refl h
-
-  deferred-dequeue-tells : (i : ℕ) → Tells (deferDequeueGhost g i) steps
-  deferred-dequeue-tells i = same-tells refl refl h
-
-  start-enqueue-tells : (i v : ℕ) → Tells (startEnqueueGhost m g i v) steps
-  start-enqueue-tells i v =
-      either-tells (eqb (rowAt m i .count) 0) (owns g i) _ steps (same-tells refl refl h)
-      (set-off-tells (deferEnqueue m i (record { value = v })) (deferEnqueueGhost g i v) i steps (deferred-enqueue-tells i v))
-
-  start-dequeue-tells : (i : ℕ) → Tells (startDequeueGhost m g i) steps
-  start-dequeue-tells i =
-      either-tells (eqb (rowAt m i .count) 0) g _ steps h (set-off-tells (deferDequeue m i) (deferDequeueGhost g i) i steps (deferred-dequeue-tells i))
-
-  evaluate-tells : (t f : ℕ) (x : Future) → Tells (evaluateGhost m g t f x) steps
-  evaluate-tells t f x = either-tells (foreign f (x .owner) (m .used .futures) t) g _ steps h (own-tells m g (t % 8) (x .outcome) steps h)
-
-  entry-tells : (e : Entry) → Tells (entryGhost m g e) (steps ++ entryLinks m e)
-  unfolding entryGhost entryLinks
-  entry-tells (entry.Enqueue t v) = nothing-more steps (call-tells t (enqueueNeeds (rowAt m (t % 8))) _ (start-enqueue-tells (t % 8) v))
-  entry-tells (entry.Dequeue t) = nothing-more steps (call-tells t (dequeueNeeds (rowAt m (t % 8))) _ (start-dequeue-tells (t % 8)))
-  entry-tells (entry.FutureEnqueue t v) = nothing-more steps (call-tells t futureEnqueueNeeds _ (deferred-enqueue-tells (t % 8) v))
-  entry-tells (entry.FutureDequeue t) = nothing-more steps (call-tells t futureDequeueNeeds _ (deferred-dequeue-tells (t % 8)))
-  entry-tells (entry.Evaluate t f) =
-      nothing-more steps
-      (accepted-tells (callable t (m .threads) (rowAt m (t % 8) .place)) g _ steps h (evaluate-tells t f (getD (m .futures) (f % 512) noFuture)))
-  entry-tells (entry.Step t) = run-tells t 1 (steppable t (m .threads) (rowAt m (t % 8) .place))
-  entry-tells (entry.Run t n) = run-tells t n (steppable t (m .threads) (rowAt m (t % 8) .place))
-
-pub after-tells : (es : List Entry) (m : Machine) (g : Ghost) → Ok m g → (steps : List (List ℕ)) → Tells g steps → Tells (ghostAfter m g es) (steps ++ linkSteps m es)
-unfolding ghostAfter linkSteps
-after-tells [] m g ok steps h = nothing-more steps h
-after-tells (e ∷ es) m g ok steps h =
-    subst (Tells _) (append-assoc steps (entryLinks m e) _)
-    (after-tells es (apply m e .machine) (entryGhost m g e) (entry-keeps m g ok e) (steps ++ entryLinks m e) (entry-tells m g ok steps h e))
+    still : (m : Machine) (p : Ghost × List (List ℕ)) (x : Event) → Finds m x → Now m p → Now (does m x) (both ghostDoes alsoLinks m p x)
+    still m p x finds now = (event-holds m (p .0) x finds (now .0), event-tells m (p .0) (now .0 .ok) (p .1) (now .1) x finds)
 
 -- a fresh machine has linked nothing
 pub fresh-tells : Tells freshGhost []

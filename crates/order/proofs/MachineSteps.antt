@@ -80,15 +80,19 @@ module _ (m : Machine) (g : Ghost) (ok : Ok m g) (i : ℕ) (lt : i < 8) where
   unfolding hop
   nodes-kept = refl
 
+  threads-kept : m₁ .threads ≡ m .threads
+  unfolding hop
+  threads-kept = refl
+
   -- a step that goes on, or ends a single call
   stays-in-call : (p : Place) → hop m i .after ≡ afterwards.On p → Ok m₁ g₁
   stays-in-call p e =
-      put-back m g ok i lt m₁ g₁ (placed (rowAt m i) p) (row-left (afterwards.On p) e) nodes-kept length-kept inv₁ grows₁ spares₁
+      put-back m g ok i lt m₁ g₁ (placed (rowAt m i) p) (row-left (afterwards.On p) e) nodes-kept threads-kept length-kept inv₁ grows₁ spares₁
       (record { tallied = still-tallied p; place = same-place (sharedOf m₁) g₁ i (rowAt m i) (placed (rowAt m i) p) refl refl refl p (knows₁ (afterwards.On p) e) })
 
   single-ends : (a : After) → hop m i .after ≡ a → placeAfter a ≡ Idle → Alone g₁ i → Ok m₁ g₁
   single-ends a e q alone =
-      put-back m g ok i lt m₁ g₁ (placed (rowAt m i) Idle) (row-left a e ∙ ap (λ (p : Place). set (m .rows) i (placed (rowAt m i) p)) q) nodes-kept length-kept inv₁ grows₁ spares₁
+      put-back m g ok i lt m₁ g₁ (placed (rowAt m i) Idle) (row-left a e ∙ ap (λ (p : Place). set (m .rows) i (placed (rowAt m i) p)) q) nodes-kept threads-kept length-kept inv₁ grows₁ spares₁
       (record { tallied = still-tallied Idle; place = nothing-private (sharedOf m₁) g₁ i (placed (rowAt m i) Idle) (alone-tally g₁ i (placed (rowAt m i) Idle) (still-tallied Idle) alone) })
 
   -- the end of a batch: its results are paired, and its pending calls are cleared
@@ -103,7 +107,7 @@ module _ (m : Machine) (g : Ghost) (ok : Ok m g) (i : ℕ) (lt : i < 8) where
   batch-ends a c e =
       put-back m g ok i lt (settled m₁ i 1 c .machine) g₂ (cleared (rowAt m₁ i))
       (ap (λ (l : List Row). set l i (cleared (rowAt m₁ i))) (row-left a e) ∙ set-set (m .rows) i (placed (rowAt m i) (placeAfter a)) (cleared (rowAt m₁ i)))
-      nodes-kept (length-set (g₁ .pending) i [] ∙ length-kept)
+      nodes-kept threads-kept (length-set (g₁ .pending) i [] ∙ length-kept)
       (deferred-inv (sharedOf m₁) g₁ i [] inv₁)
       (grows-then-grows grows₁ (deferred-grows (sharedOf m₁) g₁ i []))
       (λ u ne. spares-then-spares (spares₁ u ne) (deferred-spares (sharedOf m₁) g₁ i [] u ne))

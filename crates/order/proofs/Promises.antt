@@ -1,5 +1,5 @@
 -- The promises hold after any list of entries from a fresh machine.
-use Prim.Native.Nat.{ℕ, suc, _+_, _%_, _<_, _≤_}
+use Prim.Native.Nat.{ℕ, suc, _+_, _%_, _<_}
 use mathlib.Core.Path.{_≡_, refl, sym, ap, _∙_, subst}
 use mathlib.Core.List.{List, [], _∷_, _++_}
 use mathlib.Core.Option.{some}
@@ -22,7 +22,6 @@ use Rattle.row.specs.declared.Row.{Row}
 use Rattle.call.specs.declared.answer.Verdict.the-variants.{Accepted}
 use Rattle.call.specs.declared.entry.Entry.{Entry}
 use Rattle.call.specs.Refusals.{inRange}
-use Rattle.call.proofs.Accepted.{in-range}
 use Rattle.machine.specs.declared.Machine.{Machine}
 use Rattle.machine.specs.State.{freshMachine, rowAt, memoryOf, noFuture}
 use Rattle.machine.specs.Steps.{hop}
@@ -41,12 +40,10 @@ use Rattle.order.proofs.AbstractHead.{link-leads-means-linked, walk-sta
 use Rattle.order.proofs.PairingCounts.{Flagged, flagged-pairing-stays-on}
 use Rattle.order.proofs.Flags.{Flags}
 use Rattle.order.proofs.Fits.{fits}
-use Rattle.order.proofs.FlagsKept.{after-flags, fresh-flags}
-use Rattle.order.proofs.SameThreads.{same-threads}
-use Rattle.order.proofs.Reached.{fresh-ok, after-ok}
+use Rattle.order.proofs.Reached.{fresh-holds, after-holds}
 use Rattle.order.proofs.LinkedSoFar.{Tells, one-more, batch-nodes, place-tells, after-tells, fresh-tells}
 
-module _ (m : Machine) (g : Ghost) (ok : Ok m g) (steps : List (List ℕ)) (h : Tells g steps) (flags : Flags m g) (threads : m .threads ≤ 8) where
+module _ (m : Machine) (g : Ghost) (ok : Ok m g) (steps : List (List ℕ)) (h : Tells g steps) (flags : Flags m g) where
   -- a node of the chain beside the machine is a linked node
   is-linked : (k n : ℕ) → At (g .chain) k n → At (linked steps) k n
   is-linked k n p = subst (λ (c : List ℕ). At c k n) (h .chain) p
@@ -161,11 +158,11 @@ module _ (m : Machine) (g : Ghost) (ok : Ok m g) (steps : List (List ℕ)) (h : 
       ap length (sym (batch-nodes m g ok t lt steps h (rowAt m t) a k (w .0) (w .1) l (w .2) (ap led free))) ∙ asks (sharedOf m) g (ok .inv) t (rowAt m t) a k (w .0) (w .1) .many
 
   queue : Queue m steps
-  queue = record { chain = one-chain; tail = tail-near; heads = heads-linked; walks = walks-stay-on; batches = batches-whole; fits = fits m g ok flags threads }
+  queue = record { chain = one-chain; tail = tail-near; heads = heads-linked; walks = walks-stay-on; batches = batches-whole; fits = fits m g ok flags }
 
 pub the-queue-is-a-queue : (threads nodes : ℕ) → inRange threads nodes ≡ Accepted → (es : List Entry)
     → Queue (after (freshMachine threads nodes) es) (linkSteps (freshMachine threads nodes) es)
 the-queue-is-a-queue threads nodes e es =
-    let fresh = fresh-ok threads nodes (in-range threads nodes e .1) in
-    queue _ _ (after-ok es _ _ fresh) _ (after-tells es (freshMachine threads nodes) freshGhost fresh [] fresh-tells) (after-flags es _ _ fresh (fresh-flags threads nodes))
-    (omega (arith, same-threads es (freshMachine threads nodes), in-range threads nodes e))
+    let fresh = fresh-holds threads nodes e in
+    let w = after-holds es _ _ fresh in
+    queue _ _ (w .ok) _ (after-tells es (freshMachine threads nodes) freshGhost fresh [] fresh-tells) (w .flags)

@@ -1,4 +1,4 @@
--- From a fresh machine, over any list of entries: the invariant holds at the start, and every entry keeps it.
+-- From a fresh machine, over any list of entries: the invariant and the flags hold at the start, and every event keeps them.
 use Prim.Native.Nat.{ℕ, zero, suc, _<_, _≤_, _%_}
 use mathlib.Core.Path.{_≡_, refl, sym, ap, _∙_, subst}
 use mathlib.Core.List.{List, [], _∷_}
@@ -14,18 +14,24 @@ use Rattle.memory.specs.declared.Cell.{Cell}
 use Rattle.memory.specs.declared.Front.{Front}
 use Rattle.memory.specs.Memory.{noCell, noAnnouncement}
 use Rattle.row.specs.Row.{freshRow, noRow}
+use Rattle.call.specs.declared.answer.Verdict.the-variants.{Accepted}
 use Rattle.call.specs.declared.entry.Entry.{Entry}
+use Rattle.call.specs.Refusals.{inRange}
+use Rattle.call.proofs.Accepted.{in-range}
 use Rattle.machine.specs.declared.Machine.{Machine}
 use Rattle.machine.specs.State.{freshMachine, rowAt}
-use Rattle.machine.specs.Entries.{apply}
-use Rattle.order.proofs.Ghost.{Ghost, pendingOf, freshGhost, entryGhost, ghostAfter}
+use Rattle.order.proofs.Ghost.{Ghost, pendingOf, freshGhost, ghostDoes}
 use Rattle.order.specs.Reached.{after}
+use Rattle.order.specs.Events.{Event, does, afterEvents, keptBeside, events}
+use Rattle.order.proofs.Events.{Sized, Finds, entries-made, over-entries}
 use Rattle.order.proofs.Shared.{sharedOf, next, led}
 use Rattle.order.proofs.Invariant.{Inv}
 use Rattle.order.proofs.SameEnds.{plain-is-not-announced, one-plain}
 use Rattle.order.proofs.Knows.{Knows}
 use Rattle.order.proofs.Steps.{Ok, nothing-private}
-use Rattle.order.proofs.Entries.{entry-keeps}
+use Rattle.order.proofs.EventsKeep.{event-keeps}
+use Rattle.order.proofs.Flags.{Flags}
+use Rattle.order.proofs.FlagsKept.{event-flags, fresh-flags}
 
 -- an element of a table that holds one value everywhere
 everywhere : {A : Type 0} (n i : ℕ) (a : A) → getD (replicate n a) i a ≡ a
@@ -41,7 +47,7 @@ unfolding at
 nobody zero a p = none-is-not-some {x = a} refl (some-injective p)
 nobody (suc j) a p = none-is-not-some refl p
 
-module _ (threads nodes : ℕ) (fits : nodes ≤ 512) where
+module _ (threads nodes : ℕ) (fits : nodes ≤ 512) (few : threads ≤ 8) where
   no-link : (n : ℕ) → next (freshMachine threads nodes .links) n ≡ none
   no-link n = ap (λ (c : Cell). led (c .link)) (everywhere 512 (n % 512) noCell)
 
@@ -102,11 +108,27 @@ module _ (threads nodes : ℕ) (fits : nodes ≤ 512) where
         place = nothing-private (sharedOf (freshMachine threads nodes)) freshGhost t freshRow refl;
       })
 
-  pub fresh-ok : Ok (freshMachine threads nodes) freshGhost
-  fresh-ok = record { inv = fresh-inv; knows = fresh-knows; rows = length-replicate 8 freshRow; pendings = length-replicate {A = List (Call ℕ)} 8 []; sized = fits }
+  fresh-ok : Ok (freshMachine threads nodes) freshGhost
+  fresh-ok = record { inv = fresh-inv; knows = fresh-knows; rows = length-replicate 8 freshRow; pendings = length-replicate {A = List (Call ℕ)} 8 []; sized = fits; threads = few }
+
+-- the invariant and the flags: what every event keeps
+pub record Holds (m : Machine) (g : Ghost) : Type 0 where
+  pub ok : Ok m g
+  pub flags : Flags m g
+
+pub holds-sized : (m : Machine) (g : Ghost) → Holds m g → Sized m
+holds-sized m g h = record { threads = h .ok .threads; rows = h .ok .rows; futures = h .flags .futures; room = h .flags .room }
+
+pub event-holds : (m : Machine) (g : Ghost) (x : Event) → Finds m x → Holds m g → Holds (does m x) (ghostDoes m g x)
+event-holds m g x finds h = record { ok = event-keeps m g (h .ok) x finds; flags = event-flags m g (h .ok) (h .flags) x finds }
+
+pub fresh-holds : (threads nodes : ℕ) → inRange threads nodes ≡ Accepted → Holds (freshMachine threads nodes) freshGhost
+fresh-holds threads nodes e = let w = in-range threads nodes e in record { ok = fresh-ok threads nodes (w .1) (w .0); flags = fresh-flags threads nodes }
 
 -- over a list of entries
-pub after-ok : (es : List Entry) (m : Machine) (g : Ghost) → Ok m g → Ok (after m es) (ghostAfter m g es)
-unfolding after ghostAfter
-after-ok [] m g ok = ok
-after-ok (e ∷ es) m g ok = after-ok es (apply m e .machine) (entryGhost m g e) (entry-keeps m g ok e)
+pub after-holds : (es : List Entry) (m : Machine) (g : Ghost) → Holds m g → Holds (after m es) (keptBeside ghostDoes m g (events m es))
+after-holds = over-entries ghostDoes Holds holds-sized event-holds
+
+pub events-lead-there : (threads nodes : ℕ) → inRange threads nodes ≡ Accepted → (es : List Entry)
+    → after (freshMachine threads nodes) es ≡ afterEvents (freshMachine threads nodes) (events (freshMachine threads nodes) es)
+events-lead-there threads nodes e es = entries-made ghostDoes Holds holds-sized event-holds es _ freshGhost (fresh-holds threads nodes e) .leads

@@ -2,7 +2,7 @@
 -- head to the node that the walk has reached.
 use Prim.Native.Nat.{ℕ, suc, _+_, _≤_}
 use mathlib.Core.Path.{_≡_, refl, sym, ap, _∙_, subst}
-use mathlib.Core.Bool.{Bool, true, false, cond}
+use mathlib.Core.Bool.{Bool, true, false}
 use mathlib.Core.List.{List, [], _∷_, _++_}
 use mathlib.Core.Option.{none, some}
 use mathlib.Core.Logic.{⊎-elim}
@@ -12,6 +12,7 @@ use borrow.Author.Tests.{eqb-true, eqb-false}
 use Rattle.chain.specs.Positions.{At, In}
 use Rattle.chain.proofs.Positions.{none-is-not-some, some-injective, within, stays, at-the-end, at-is-getD}
 use Rattle.chain.proofs.Following.{none-is-the-last}
+use Rattle.refusal.proofs.Tests.{either-way}
 use Rattle.memory.specs.declared.Tail.{Tail}
 use Rattle.memory.specs.declared.Front.{Front}
 use Rattle.memory.specs.declared.Head.the-variants.{Plain, Announced}
@@ -113,14 +114,13 @@ module _ (s : Shared) (g : Ghost) (i : Inv s g) (t : ℕ) (r : Row) (a : ℕ) (k
       (now-linked l h (ap led e), stays (g .chain) (batchOf g a .nodes) _ (h .0 .is)),
     );
   }
-  at-a3 l h (To x) e = either (eqb x (requestOf s a .first)) refl
+  at-a3 l h (To x) e =
+      either-way (λ (y : RunStep). Fine s g t r (reads (memoryIn s) (found.Link (To x))) g (runningAt a k y)) (eqb x (requestOf s a .first))
+      (λ q. runs-on (found.Link (To x)) (A4 l) (found-first s g i t r a there l x behind (eqb-true x _ q), h .0 .is))
+      (λ q. runs-on (found.Link (To x)) (A8 l x) (h .0, behind, found-another s g i t r a there l x h behind (eqb-false x _ q)))
     where
       behind : At (g .chain) (suc (l .count .0)) x
       behind = found-behind s g i t r (l .count .0) (l .node) x (h .0 .is) e
-
-      either : (b : Bool) → eqb x (requestOf s a .first) ≡ b → Fine s g t r (reads (memoryIn s) (found.Link (To x))) g (runningAt a k (cond b (A4 l) (A8 l x)))
-      either true q = runs-on (found.Link (To x)) (A4 l) (found-first s g i t r a there l x behind (eqb-true x _ q), h .0 .is)
-      either false q = runs-on (found.Link (To x)) (A8 l x) (h .0, behind, found-another s g i t r a there l x h behind (eqb-false x _ q))
 
   -- a5 goes over the whole batch
   at-a5 : (o : Tail) → announcementAt (s .announcements) a .«old_tail» ≡ Set o → (b : Bool) → sameTail (s .tail) o ≡ b

@@ -25,7 +25,7 @@ use Rattle.machine.specs.declared.Machine.{Machine}
 use Rattle.machine.specs.State.{rowAt, withRow}
 use Rattle.machine.specs.HandOut.{handOutAnnouncement}
 use Rattle.machine.specs.Entries.{setOff}
-use Rattle.order.proofs.Ghost.{Ghost, Batch, pendingOf, announces, pendingNodes, setOffGhost}
+use Rattle.order.proofs.Ghost.{Ghost, Batch, announces, pendingNodes, pendingBatch, setOffGhost}
 use Rattle.order.proofs.Shared.{Shared, sharedOf}
 use Rattle.order.proofs.Invariant.{Asks}
 use Rattle.order.proofs.Knows.{Private, Pending, Tallied, NotAnnounced, Own}
@@ -34,6 +34,21 @@ use Rattle.order.proofs.HandingOutAnnouncements.{asking, announcementHa
 use Rattle.order.proofs.HandedOut.{announcement-number, announcement-handed-out}
 use Rattle.order.proofs.Steps.{Ok, put-back, put-back-as}
 use Rattle.order.proofs.Deferred.{pending-here}
+
+-- what holds after both ways of setting off
+pub set-off-either : (P : Machine → Ghost → Type 0) (m : Machine) (g : Ghost) (i f : ℕ)
+    → (rowAt m i .tally .enqueues ≡ 0 → P (withRow m i (calling (rowAt m i) (place.Dequeues Q1) f)) g)
+    → (rowAt m i .tally .enqueues ≢ 0
+    → P (withRow (handOutAnnouncement m (request (rowAt m i))) i (calling (rowAt m i) (place.Batch (nextAnnouncement (m .used)) B1) f)) (announces g i (pendingBatch m g i)))
+    → P (setOff m i f) (setOffGhost m g i)
+unfolding setOff
+set-off-either P m g i f dequeues announced = by (eqb (rowAt m i .tally .enqueues) 0) refl
+  where
+    by : (b : Bool) → eqb (rowAt m i .tally .enqueues) 0 ≡ b
+        → P (cond b (withRow m i (calling (rowAt m i) (place.Dequeues Q1) f)) (withRow (handOutAnnouncement m (request (rowAt m i))) i (calling (rowAt m i) (place.Batch (nextAnnouncement (m .used)) B1) f)))
+        (cond b g (announces g i (pendingBatch m g i)))
+    by true e = dequeues (eqb-true _ 0 e)
+    by false e = announced (eqb-false _ 0 e)
 
 module _ (m : Machine) (g : Ghost) (ok : Ok m g) (i : ℕ) (lt : i < 8) (idle : rowAt m i .place ≡ Idle) (f : ℕ) where
   h : Pending (sharedOf m) g i (rowAt m i)
@@ -44,7 +59,7 @@ module _ (m : Machine) (g : Ghost) (ok : Ok m g) (i : ℕ) (lt : i < 8) (idle : 
 
   dequeues-off : rowAt m i .tally .enqueues ≡ 0 → Ok (withRow m i (calling (rowAt m i) (place.Dequeues Q1) f)) g
   dequeues-off e =
-      put-back m g ok i lt _ g (calling (rowAt m i) (place.Dequeues Q1) f) refl refl refl (ok .inv) quiet (λ u ne. spared)
+      put-back m g ok i lt _ g (calling (rowAt m i) (place.Dequeues Q1) f) refl refl refl refl (ok .inv) quiet (λ u ne. spared)
       (record { tallied = tallied (place.Dequeues Q1); place = (tt, e) })
 
   -- a batch with an enqueue
@@ -64,7 +79,7 @@ module _ (m : Machine) (g : Ghost) (ok : Ok m g) (i : ℕ) (lt : i < 8) (idle : 
     nodes-are-pending = meets-the-rest (h .private .chain) (rowAt m i .tally .enqueues) 0 (some (rowAt m i .first)) first (omega (arith, h .many))
 
     abbrev batch : Batch
-    batch = record { nodes = pendingNodes (m .links) (rowAt m i); calls = pendingOf g i }
+    batch = pendingBatch m g i
 
     asks : Asks (asking (request (rowAt m i))) batch
     asks = record {
@@ -108,18 +123,11 @@ module _ (m : Machine) (g : Ghost) (ok : Ok m g) (i : ℕ) (lt : i < 8) (idle : 
 
     announced-off : Ok (withRow (handOutAnnouncement m k) i row) g′
     announced-off =
-        put-back-as m g ok i lt _ g′ s′ (announcement-handed-out m k left) row refl refl refl
+        put-back-as m g ok i lt _ g′ s′ (announcement-handed-out m k left) row refl refl refl refl
         (new-announcement-inv (sharedOf m) g (ok .inv) i k batch asks private left)
         (new-announcement-grows (sharedOf m) g (ok .inv) i k batch asks private left)
         (λ u ne. new-announcement-spares (sharedOf m) g (ok .inv) i k batch asks private left u)
         (record { tallied = let w = ok .knows i lt .tallied in record { tally = w .tally; count = w .count; few = w .few }; place = begins })
 
   pub set-off-keeps : (rowAt m i .tally .enqueues ≢ 0 → m .used .announcements < 64) → Ok (setOff m i f) (setOffGhost m g i)
-  unfolding setOff
-  set-off-keeps left = by (eqb (rowAt m i .tally .enqueues) 0) refl
-    where
-      by : (b : Bool) → eqb (rowAt m i .tally .enqueues) 0 ≡ b
-          → Ok (cond b (withRow m i (calling (rowAt m i) (place.Dequeues Q1) f)) (withRow (handOutAnnouncement m (request (rowAt m i))) i (calling (rowAt m i) (place.Batch (nextAnnouncement (m .used)) B1) f)))
-          (cond b g (announces g i (record { nodes = pendingNodes (m .links) (rowAt m i); calls = pendingOf g i })))
-      by true e = dequeues-off (eqb-true _ 0 e)
-      by false e = announced-off (eqb-false _ 0 e) (left (eqb-false _ 0 e))
+  set-off-keeps left = set-off-either Ok m g i f dequeues-off (λ ne. announced-off ne (left ne))

@@ -2,7 +2,7 @@
 -- The machine takes numbers by their remainder; of numbers in range that is the number itself.
 use Prim.Native.Nat.{ℕ, _%_, _<_}
 use mathlib.Core.Path.{_≡_, refl, sym, ap, _∙_}
-use mathlib.Core.Bool.{Bool, true, false}
+use mathlib.Core.Bool.{Bool, cond}
 use mathlib.Core.List.{List}
 use mathlib.Core.Option.{none, some}
 use mathlib.Core.Logic.{_≢_}
@@ -65,12 +65,10 @@ withAnnouncements s anns = record { head = s .head; tail = s .tail; links = s .l
 
 -- a CAS that was taken, or not
 abbrev pub tailIf : Bool → Shared → Tail → Shared
-tailIf true s t = withTail s t
-tailIf false s t = s
+tailIf b s t = cond b (withTail s t) s
 
 abbrev pub headIf : Bool → Shared → Head → Shared
-headIf true s h = withHead s h
-headIf false s h = s
+headIf b s h = cond b (withHead s h) s
 
 pub no-link : (l : Link) → led l ≡ none → l ≡ None
 no-link None e = refl

@@ -1,7 +1,6 @@
 -- Every step of every thread keeps the invariant of the machine and its ghost.
 use Prim.Native.Nat.{ℕ, _<_, _≤_}
 use mathlib.Core.Path.{_≡_, refl, sym, ap, _∙_, subst}
-use mathlib.Core.Bool.{Bool, true, false, cond}
 use mathlib.Core.List.{List, []}
 use mathlib.Core.Logic.{_≢_}
 use native.Mathlib.Omega.{arith}
@@ -14,6 +13,7 @@ use Rattle.tally.specs.Fifo.{Call}
 use Rattle.tally.specs.Excess.{enqueued}
 use Rattle.tally.specs.Tally.{tallyOf}
 use Rattle.tally.specs.declared.Tally.{Tally}
+use Rattle.refusal.proofs.Tests.{either-way}
 use Rattle.memory.specs.declared.Head.the-variants.{Plain}
 use Rattle.memory.specs.declared.Link.{Link}
 use Rattle.memory.specs.declared.Link.the-variants.{None, To}
@@ -46,13 +46,14 @@ use Rattle.order.proofs.DequeueSteps.{dequeue-step, dequeues-step}
 use Rattle.order.proofs.BatchSteps.{batch-step}
 use Rattle.order.proofs.RunSteps.{run-step}
 
--- the machine and its ghost: the shared invariant, and what each thread knows
+-- the machine and its ghost: the shared invariant, what each thread knows, and the sizes
 pub record Ok (m : Machine) (g : Ghost) : Type 0 where
   pub inv : Inv (sharedOf m) g
   pub knows : (t : ℕ) → t < 8 → Knows (sharedOf m) g t (rowAt m t)
   pub rows : length (m .rows) ≡ 8
   pub pendings : length (g .pending) ≡ 8
   pub sized : m .nodes ≤ 512
+  pub threads : m .threads ≤ 8
 
 -- by its place
 abbrev request : Shared → Place → Request
@@ -75,10 +76,6 @@ either-pending : (v : Link) (x y : Ghost) (l : List (List (Call ℕ))) → x .pe
 either-pending None x y l p q = p
 either-pending (To n) x y l p q = q
 
-cond-pending : (b : Bool) (x y : Ghost) (l : List (List (Call ℕ))) → x .pending ≡ l → y .pending ≡ l → cond b x y .pending ≡ l
-cond-pending true x y l p q = p
-cond-pending false x y l p q = q
-
 pub pending-kept : (m : Memory) (g : Ghost) (p : Place) → stepGhost m g p .pending ≡ g .pending
 pending-kept m g Idle = refl
 pending-kept m g (Enqueue n E1) = refl
@@ -88,7 +85,7 @@ pending-kept m g (Enqueue n (E4 l x)) = refl
 pending-kept m g (Enqueue n (E5 l x)) = refl
 pending-kept m g (Dequeue x) = refl
 pending-kept m g (Batch b B1) = refl
-pending-kept m g (Batch b (B2 f)) = cond-pending (sameHead (m .ends .head) (Plain f)) _ _ (g .pending) refl refl
+pending-kept m g (Batch b (B2 f)) = either-way (λ (x : Ghost). x .pending ≡ g .pending) (sameHead (m .ends .head) (Plain f)) (λ e. refl) (λ e. refl)
 pending-kept m g (Dequeues x) = refl
 pending-kept m g (Running a A1 k) = refl
 pending-kept m g (Running a (A2 l) k) = refl
@@ -101,15 +98,17 @@ pending-kept m g (Running a (A8 l x) k) = refl
 
 -- a machine that differs in what is shared and in one thread's row
 module _ (m : Machine) (g : Ghost) (ok : Ok m g) (i : ℕ) (lt : i < 8) where
-  pub put-back : (m′ : Machine) (g′ : Ghost) (row : Row) → m′ .rows ≡ set (m .rows) i row → m′ .nodes ≡ m .nodes → length (g′ .pending) ≡ length (g .pending)
+  pub put-back : (m′ : Machine) (g′ : Ghost) (row : Row) → m′ .rows ≡ set (m .rows) i row → m′ .nodes ≡ m .nodes → m′ .threads ≡ m .threads
+      → length (g′ .pending) ≡ length (g .pending)
       → Inv (sharedOf m′) g′ → Grows (sharedOf m) g (sharedOf m′) g′ → ((u : ℕ) → u ≢ i → Spares (sharedOf m) g (sharedOf m′) g′ u)
       → Knows (sharedOf m′) g′ i row → Ok m′ g′
-  put-back m′ g′ row rows nodes pendings inv grows spares knows = record {
+  put-back m′ g′ row rows nodes threads pendings inv grows spares knows = record {
     inv = inv;
     knows = λ u h. elim (ℕ-discrete u i) [ yes e ↦ own u e | no ne ↦ other u ne h ];
     rows = ap length rows ∙ length-set (m .rows) i row ∙ ok .rows;
     pendings = pendings ∙ ok .pendings;
     sized = subst (λ (n : ℕ). n ≤ 512) (sym nodes) (ok .sized);
+    threads = subst (λ (n : ℕ). n ≤ 8) (sym threads) (ok .threads);
   }
     where
       own : (u : ℕ) → u ≡ i → Knows (sharedOf m′) g′ u (rowAt m′ u)
@@ -123,10 +122,10 @@ module _ (m : Machine) (g : Ghost) (ok : Ok m g) (i : ℕ) (lt : i < 8) where
           subst (Knows (sharedOf m′) g′ u) (sym there) (knows-stays grows (spares u ne) (rowAt m u) (ok .knows u h))
 
   -- the same where what is shared is known as s′
-  pub put-back-as : (m′ : Machine) (g′ : Ghost) (s′ : Shared) → sharedOf m′ ≡ s′ → (row : Row) → m′ .rows ≡ set (m .rows) i row → m′ .nodes ≡ m .nodes
+  pub put-back-as : (m′ : Machine) (g′ : Ghost) (s′ : Shared) → sharedOf m′ ≡ s′ → (row : Row) → m′ .rows ≡ set (m .rows) i row → m′ .nodes ≡ m .nodes → m′ .threads ≡ m .threads
       → length (g′ .pending) ≡ length (g .pending) → Inv s′ g′ → Grows (sharedOf m) g s′ g′ → ((u : ℕ) → u ≢ i → Spares (sharedOf m) g s′ g′ u) → Knows s′ g′ i row → Ok m′ g′
-  put-back-as m′ g′ s′ e row rows nodes pendings inv grows spares knows =
-      put-back m′ g′ row rows nodes pendings
+  put-back-as m′ g′ s′ e row rows nodes threads pendings inv grows spares knows =
+      put-back m′ g′ row rows nodes threads pendings
       (subst (λ (x : Shared). Inv x g′) (sym e) inv)
       (subst (λ (x : Shared). Grows (sharedOf m) g x g′) (sym e) grows)
       (λ u ne. subst (λ (x : Shared). Spares (sharedOf m) g x g′ u) (sym e) (spares u ne))

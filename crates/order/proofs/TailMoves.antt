@@ -9,6 +9,7 @@ use native.Mathlib.Omega.{arith}
 use native.Mathlib.Decide.{ℕ-discrete}
 use Rattle.chain.specs.Positions.{At, In}
 use Rattle.chain.proofs.Positions.{none-is-not-some, some-injective, one-element, within}
+use Rattle.refusal.proofs.Tests.{either-way}
 use Rattle.memory.specs.declared.Tail.{Tail}
 use Rattle.memory.specs.declared.OldTail.the-variants.{Unset, Set}
 use Rattle.memory.specs.Memory.{announcementAt}
@@ -49,13 +50,8 @@ spared {s} {g} {u} = tail-spares s g (s .tail) u
 abbrev pub pastBatch : Shared → ℕ → Tail → Tail
 pastBatch s a o = pastTail o (requestOf s a .last) (requestOf s a .tally .enqueues)
 
--- what holds of the state with the new tail, if the CAS was taken, and of the old one
-taken-or-not : (P : Shared → Type 0) (s : Shared) (t : Tail) (b : Bool) → (b ≡ true → P (withTail s t)) → P s → P (tailIf b s t)
-taken-or-not P s t true new old = new refl
-taken-or-not P s t false new old = old
-
 pub tail-cas-spares : (s : Shared) (g : Ghost) (t : Tail) (b : Bool) (u : ℕ) → Spares s g (tailIf b s t) g u
-tail-cas-spares s g t b u = taken-or-not (λ s′. Spares s g s′ g u) s t b (λ e. tail-spares s g t u) spared
+tail-cas-spares s g t b u = either-way (λ s′. Spares s g s′ g u) b (λ e. tail-spares s g t u) (λ e. spared)
 
 module _ {s : Shared} {g : Ghost} (i : Inv s g) where
   -- the tail goes over link step j + 1; if that was a batch, then its old tail is set
@@ -96,10 +92,10 @@ module _ {s : Shared} {g : Ghost} (i : Inv s g) where
   -- a CAS of the tail from t to x: if it is taken, then the tail was t
   module _ (t x : Tail) (b : Bool) (same : sameTail (s .tail) t ≡ b) where
     cas-inv : (s .tail ≡ t → Inv (withTail s x) g) → Inv (tailIf b s x) g
-    cas-inv moved = taken-or-not (λ s′. Inv s′ g) s x b (λ e. moved (same-tail-is-it (s .tail) t (same ∙ e))) i
+    cas-inv moved = either-way (λ s′. Inv s′ g) b (λ e. moved (same-tail-is-it (s .tail) t (same ∙ e))) (λ e. i)
 
     cas-grows : t .count .0 ≤ x .count .0 → Grows s g (tailIf b s x) g
-    cas-grows forth = taken-or-not (λ s′. Grows s g s′ g) s x b (λ e. tail-grows s g x (omega (arith, was e))) quiet
+    cas-grows forth = either-way (λ s′. Grows s g s′ g) b (λ e. tail-grows s g x (omega (arith, was e))) (λ e. quiet)
       where
         was : b ≡ true → s .tail .count .0 ≡ t .count .0
         was e = ap (λ (y : Tail). y .count .0) (same-tail-is-it (s .tail) t (same ∙ e))

@@ -1,9 +1,9 @@
 -- What is promised of the queue after any list of entries from a fresh machine (a refused entry changes nothing):
 -- "the linked nodes form one chain from the first dummy, no loop, each node once; the tail is at the last node or one link step behind;
 -- no walk runs off the end." proofs/Promises.antt has the theorem, the-queue-is-a-queue.
-use Prim.Native.Nat.{ℕ, zero, suc, _%_, _<_, _≤_}
+use Prim.Native.Nat.{ℕ, suc, _<_, _≤_}
 use mathlib.Core.Path.{_≡_}
-use mathlib.Core.Bool.{true, cond}
+use mathlib.Core.Bool.{true}
 use mathlib.Core.List.{List, [], _∷_, _++_}
 use mathlib.Core.Option.{some}
 use mathlib.Core.Logic.{_⊎_}
@@ -30,14 +30,12 @@ use Rattle.thread.specs.declared.running.RunStep.{RunStep}
 use Rattle.thread.specs.declared.running.RunStep.the-variants.{A1, A2, A3, A4, A5, A6, A7, A8}
 use Rattle.thread.specs.Running.{walkTo}
 use Rattle.call.specs.declared.entry.Entry.{Entry}
-use Rattle.call.specs.declared.entry.Entry.the-variants as entry
-use Rattle.call.specs.Refusals.{whereAccepted, steppable}
 use Rattle.machine.specs.declared.Machine.{Machine}
 use Rattle.machine.specs.State.{rowAt, memoryOf}
-use Rattle.machine.specs.Steps.{hop, stepOf, isMore}
+use Rattle.machine.specs.Steps.{hop}
 use Rattle.machine.specs.Contents.{walked, leadsTo, abstractHead, chainAfter}
-use Rattle.machine.specs.Entries.{apply}
 use Rattle.order.specs.Links.{next, nodesFrom, ifTaken}
+use Rattle.order.specs.Events.{Event, EnqueueStarts, DequeueStarts, EnqueueDeferred, DequeueDeferred, BatchSetOff, FutureAsked, StepTaken, keptBeside, events}
 use Rattle.order.specs.Fits.{Fits}
 use Rattle.order.specs.PairingReads.{AllStayOn, turnsAfter}
 
@@ -72,24 +70,23 @@ stepLinks m (Batch b x) = []
 stepLinks m (Dequeues x) = []
 stepLinks m (Running a x k) = runLinks m a x
 
--- the link steps among the n steps of Run, which stops where its thread's call has ended
-unfoldable pub advanceLinks : ℕ → Machine → ℕ → List (List ℕ)
-advanceLinks zero m i = []
-advanceLinks (suc n) m i = stepLinks (memoryOf m) (rowAt m i .place) ++ cond (isMore (stepOf m i .answer)) (advanceLinks n (stepOf m i .machine) i) []
+-- of an event: only a step can be a link step
+abbrev pub eventLinks : Machine → Event → List (List ℕ)
+eventLinks m (EnqueueStarts i v) = []
+eventLinks m (DequeueStarts i) = []
+eventLinks m (EnqueueDeferred i v) = []
+eventLinks m (DequeueDeferred i) = []
+eventLinks m (BatchSetOff i f) = []
+eventLinks m (FutureAsked i f) = []
+eventLinks m (StepTaken i) = stepLinks (memoryOf m) (rowAt m i .place)
 
-unfoldable pub entryLinks : Machine → Entry → List (List ℕ)
-entryLinks m (entry.Enqueue t v) = []
-entryLinks m (entry.Dequeue t) = []
-entryLinks m (entry.FutureEnqueue t v) = []
-entryLinks m (entry.FutureDequeue t) = []
-entryLinks m (entry.Evaluate t f) = []
-entryLinks m (entry.Step t) = whereAccepted (steppable t (m .threads) (rowAt m (t % 8) .place)) (advanceLinks 1 m (t % 8)) []
-entryLinks m (entry.Run t n) = whereAccepted (steppable t (m .threads) (rowAt m (t % 8) .place)) (advanceLinks n m (t % 8)) []
+-- with those taken before it
+abbrev pub alsoLinks : Machine → List (List ℕ) → Event → List (List ℕ)
+alsoLinks m steps x = steps ++ eventLinks m x
 
 -- the link steps of a list of entries, in the order in which they were taken
-unfoldable pub linkSteps : Machine → List Entry → List (List ℕ)
-linkSteps m [] = []
-linkSteps m (e ∷ es) = entryLinks m e ++ linkSteps (apply m e .machine) es
+abbrev pub linkSteps : Machine → List Entry → List (List ℕ)
+linkSteps m es = keptBeside alsoLinks m [] (events m es)
 
 unfoldable pub together : List (List ℕ) → List ℕ
 together [] = []

@@ -1,3 +1,4 @@
 pub mod Prefixes
 pub mod Counts
 pub mod KeptUp
+pub mod OneKind
