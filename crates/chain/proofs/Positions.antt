@@ -40,6 +40,10 @@ module _ {A : Type 0} where
   element (x ∷ xs) zero h = (x, refl)
   element (x ∷ xs) (suc k) h = element xs k (le-of-suc-le-suc h)
 
+  pub empty-without-length : (c : List A) → length c ≡ 0 → c ≡ []
+  empty-without-length [] e = refl
+  empty-without-length (x ∷ xs) e = absurd (omega arith)
+
   pub none-is-past-the-end : (c : List A) (k : ℕ) → at c k ≡ none → length c ≤ k
   none-is-past-the-end c k e = elim (decLt k (length c)) [ yes h ↦ absurd (none-is-not-some e (element c k h .1)) | no h ↦ omega arith ]
 

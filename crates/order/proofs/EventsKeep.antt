@@ -1,10 +1,8 @@
 -- Every event keeps the invariant, where it finds what it needs.
 use Prim.Native.Nat.{ℕ, _<_}
 use mathlib.Core.Path.{_≡_, refl, sym, _∙_, subst}
-use mathlib.Core.List.{List, [], _∷_}
 use native.Mathlib.Omega.{arith}
-use lib.ListN.{length}
-use Rattle.tally.specs.Fifo.{Call}
+use Rattle.chain.proofs.Positions.{empty-without-length}
 use Rattle.thread.specs.declared.Place.{Place}
 use Rattle.thread.specs.declared.Place.the-variants as place
 use Rattle.thread.specs.declared.enqueue.EnqueueStep.the-variants.{E1}
@@ -28,13 +26,9 @@ use Rattle.order.proofs.MachineSteps.{step-keeps}
 use Rattle.order.proofs.Deferred.{defer-enqueue-keeps, defer-dequeue-keeps}
 use Rattle.order.proofs.SettingOff.{set-off-keeps}
 
-no-calls : (cs : List (Call ℕ)) → length cs ≡ 0 → cs ≡ []
-no-calls [] e = refl
-no-calls (c ∷ cs) e = absurd (omega arith)
-
 module _ (m : Machine) (g : Ghost) (ok : Ok m g) (i : ℕ) (lt : i < 8) where
   alone : rowAt m i .count ≡ 0 → Alone g i
-  alone e = no-calls (pendingOf g i) (sym (ok .knows i lt .tallied .count) ∙ e)
+  alone e = empty-without-length (pendingOf g i) (sym (ok .knows i lt .tallied .count) ∙ e)
 
   tallied : (p : Place) → Tallied g i (placed (rowAt m i) p)
   tallied p = let w = ok .knows i lt .tallied in record { tally = w .tally; count = w .count; few = w .few }

@@ -1,6 +1,6 @@
 -- Each pending call of a thread has a future that was handed out for it and is flagged as the call is, an enqueue or a dequeue. Futures are
 -- handed out in number order and paying one leaves its flag, so what other threads do leaves the flags of a thread's pending calls as they are.
-use Prim.Native.Nat.{ℕ, zero, suc, _+_, _%_, _<_, _≤_}
+use Prim.Native.Nat.{ℕ, suc, _%_, _<_, _≤_}
 use mathlib.Core.Path.{_≡_, refl, sym, ap, _∙_, subst}
 use mathlib.Core.Bool.{Bool}
 use mathlib.Core.List.{List, [], _∷_, _++_}
@@ -14,20 +14,16 @@ use Rattle.chain.specs.Positions.{At}
 use Rattle.chain.proofs.Positions.{within, there-or-at-the-end}
 use Rattle.tally.specs.Fifo.{Call, enqueue}
 use Rattle.tally.specs.Tally.{up}
-use Rattle.memory.specs.declared.Cell.{Cell}
 use Rattle.row.specs.declared.Row.{Row}
 use Rattle.row.specs.Row.{noRow}
-use Rattle.call.specs.declared.answer.Item.{Item}
 use Rattle.call.specs.declared.answer.Future.{Future}
-use Rattle.call.specs.declared.pairing.Cursor.{Cursor}
 use Rattle.call.specs.Next.{nextFuture}
 use Rattle.machine.specs.declared.Machine.{Machine}
 use Rattle.machine.specs.State.{rowAt, noFuture}
-use Rattle.machine.specs.Pairing.{pairFrom}
 use Rattle.laws.proofs.HandedOut.{futures-in-order}
 use Rattle.order.proofs.Ghost.{Ghost, pendingOf}
 use Rattle.order.proofs.Steps.{Ok}
-use Rattle.order.proofs.PairingCounts.{isEnqueue, flags-stay}
+use Rattle.order.proofs.PairingCounts.{isEnqueue}
 
 pub record FlagsOf (fs : List Future) (used : ℕ) (pending : List ℕ) (cs : List (Call ℕ)) : Type 0 where
   pub places : length pending ≡ 32
@@ -122,15 +118,6 @@ module _ (fs : List Future) (used : ℕ) (x : Future) (left : used < 512) where
           (λ w. ap flag (new j (w .0)) ∙ new-flag ∙ sym (ap isEnqueue (w .1)))
           (there-or-at-the-end cs c j p);
     }
-
--- pairing keeps the flags
-pub pair-keeps : (n : ℕ) (links : List Cell) (items : List Item) (last : ℕ) (pending : List ℕ) (k : ℕ) (fs : List Future) (c : Cursor)
-    → ((j : ℕ) → getD (pairFrom n links items last pending k fs c) j noFuture .enqueue ≡ getD fs j noFuture .enqueue) × (length (pairFrom n links items last pending k fs c) ≡ length fs)
-unfolding pairFrom
-pair-keeps zero links items last pending k fs c = ((λ j. refl), refl)
-pair-keeps (suc n) links items last pending k fs c =
-    let rest = pair-keeps n links items last pending (k + 1) _ _ in
-    ((λ j. rest .0 j ∙ flags-stay fs _ j _), rest .1 ∙ length-set fs _ _)
 
 module _ (m : Machine) (g : Ghost) (ok : Ok m g) (h : Flags m g) (i : ℕ) (lt : i < 8) where
   -- the row's place changes, nothing is deferred

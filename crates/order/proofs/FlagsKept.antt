@@ -1,7 +1,7 @@
 -- Every event leaves the futures of the pending calls flagged as the calls are.
 use Prim.Native.Nat.{ℕ, _%_, _<_}
 use mathlib.Core.Path.{_≡_, refl, sym, ap, _∙_, subst}
-use mathlib.Core.Bool.{true, false}
+use mathlib.Core.Bool.{Bool, true, false}
 use mathlib.Core.List.{List, []}
 use native.Mathlib.Omega.{arith}
 use lib.ListN.{length, length-set, length-replicate, getD-replicate}
@@ -33,7 +33,8 @@ use Rattle.order.proofs.Events.{Finds}
 use Rattle.order.proofs.Ghost.{Ghost, pendingOf, stepGhost, endGhost, defers, setOffGhost, deferEnqueueGhost, deferDequeueGhost, stepOfGhost, ghostDoes, freshGhost}
 use Rattle.order.proofs.Steps.{Ok, pending-kept}
 use Rattle.order.proofs.SettingOff.{set-off-either}
-use Rattle.order.proofs.Flags.{Flags, Carries, put-flags, pair-keeps, row-moves, deferred}
+use Rattle.order.proofs.PairingWrites.{pair-keeps}
+use Rattle.order.proofs.Flags.{Flags, Carries, put-flags, row-moves, deferred}
 
 -- a step
 module _ (m : Machine) (g : Ghost) (ok : Ok m g) (h : Flags m g) (i : ℕ) (lt : i < 8) where
@@ -71,8 +72,8 @@ module _ (m : Machine) (g : Ghost) (ok : Ok m g) (h : Flags m g) (i : ℕ) (lt :
 
       paid : Carries (m₁ .futures) (m₁ .used .futures) (settled m₁ i 1 c .machine .futures) (m₁ .used .futures)
       paid =
-          let kept = pair-keeps (rowAt m₁ i .count % 33) (m₁ .links) (m₁ .items) (rowAt m₁ i .last) (rowAt m₁ i .pending) 0 (m₁ .futures) c in
-          record { more = omega arith; same = λ k p. kept .0 (k % 512); long = kept .1; room = λ p. p }
+          let kept = pair-keeps (m₁ .links) (m₁ .items) (rowAt m₁ i .last) (rowAt m₁ i .pending) (rowAt m₁ i .count % 33) 0 (m₁ .futures) c in
+          record { more = omega arith; same = λ k p. ap (λ (x : ℕ × Bool). x .1) (kept .0 (k % 512)); long = kept .1; room = λ p. p }
 
   step-flags : Flags (stepOf m i .machine) (stepOfGhost m g i)
   step-flags = ended (hop m i .after)

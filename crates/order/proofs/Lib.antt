@@ -32,10 +32,14 @@ pub mod EventsKeep
 pub mod PairingWalks
 pub mod PairingSteps
 pub mod PairingCounts
+pub mod PairingResults
+pub mod PairingWrites
 pub mod Flags
 pub mod FlagsKept
 pub mod Reached
 pub mod LinkedSoFar
 pub mod Fits
 pub mod Ran
+pub mod Orderly
+pub mod Futured
 pub mod Promises

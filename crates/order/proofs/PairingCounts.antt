@@ -41,13 +41,30 @@ FlaggedFrom k pending fs cs = (j : ℕ) (c : Call ℕ) → At cs j c → futureA
 abbrev pub Flagged : List ℕ → List Future → List (Call ℕ) → Type 0
 Flagged pending fs cs = FlaggedFrom 0 pending fs cs
 
--- a future that becomes done keeps its flag
-pub flags-stay : (fs : List Future) (i j : ℕ) (o : Outcome) → getD (set fs i (done (getD fs i noFuture) o)) j noFuture .enqueue ≡ getD fs j noFuture .enqueue
-flags-stay [] i j o = refl
-flags-stay (x ∷ fs) zero zero o = refl
-flags-stay (x ∷ fs) zero (suc j) o = refl
-flags-stay (x ∷ fs) (suc i) zero o = refl
-flags-stay (x ∷ fs) (suc i) (suc j) o = flags-stay fs i j o
+-- the thread that a future was handed out to, and whether it was for an enqueue
+abbrev pub handedOutFor : Future → ℕ × Bool
+handedOutFor f = (f .owner, f .enqueue)
+
+-- a future that becomes done keeps both
+pub done-keeps : (fs : List Future) (i j : ℕ) (o : Outcome)
+    → handedOutFor (getD (set fs i (done (getD fs i noFuture) o)) j noFuture) ≡ handedOutFor (getD fs j noFuture)
+done-keeps [] i j o = refl
+done-keeps (x ∷ fs) zero zero o = refl
+done-keeps (x ∷ fs) zero (suc j) o = refl
+done-keeps (x ∷ fs) (suc i) zero o = refl
+done-keeps (x ∷ fs) (suc i) (suc j) o = done-keeps fs i j o
+
+-- the flags of the first pending call, and of those after it once it is paid
+module _ (pending : List ℕ) (k : ℕ) (fs : List Future) (x : Call ℕ) (cs : List (Call ℕ)) (flagged : FlaggedFrom k pending fs (x ∷ cs)) where
+  pub flagged-now : futureAt pending k fs .enqueue ≡ isEnqueue x
+  unfolding at
+  flagged-now = subst (λ (p : ℕ). futureAt pending p fs .enqueue ≡ isEnqueue x) (let z : k + 0 ≡ k = omega arith in z) (flagged 0 x refl)
+
+  pub flagged-later : (o : Outcome) → FlaggedFrom (k + 1) pending (withOutcome pending k fs o) cs
+  unfolding at
+  flagged-later o j y h =
+      ap (λ (z : ℕ × Bool). z .1) (done-keeps fs _ _ o)
+      ∙ subst (λ (p : ℕ). futureAt pending p fs .enqueue ≡ isEnqueue y) (let z : k + suc j ≡ k + 1 + j = omega arith in z) (flagged (suc j) y h)
 
 one-more-or-not : (b : Bool) (n : ℕ) (x : Call ℕ) (cs : List (Call ℕ)) → b ≡ isEnqueue x → n ≡ enqueues cs → cond b (suc n) n ≡ enqueues (x ∷ cs)
 unfolding enqueued
@@ -57,17 +74,10 @@ one-more-or-not b n dequeue cs e h = rw e h
 module _ (links : List Cell) (items : List Item) (last : ℕ) (pending : List ℕ) where
   pub as-many-turns-as-calls : (cs : List (Call ℕ)) (k : ℕ) (fs : List Future) (c : Cursor) → FlaggedFrom k pending fs cs
       → enqueuesAmong (turns (length cs) links items last pending k fs c) ≡ enqueues cs
-  unfolding turns enqueuesAmong enqueued at
+  unfolding turns enqueuesAmong enqueued
   as-many-turns-as-calls [] k fs c flagged = refl
-  as-many-turns-as-calls (x ∷ cs) k fs c flagged = one-more-or-not _ _ x cs now (as-many-turns-as-calls cs (k + 1) _ _ (later _))
-    where
-      now : futureAt pending k fs .enqueue ≡ isEnqueue x
-      now = subst (λ (p : ℕ). futureAt pending p fs .enqueue ≡ isEnqueue x) (let z : k + 0 ≡ k = omega arith in z) (flagged 0 x refl)
-
-      later : (o : Outcome) → FlaggedFrom (k + 1) pending (withOutcome pending k fs o) cs
-      later o j y h =
-          flags-stay fs _ _ o
-          ∙ subst (λ (p : ℕ). futureAt pending p fs .enqueue ≡ isEnqueue y) (let z : k + suc j ≡ k + 1 + j = omega arith in z) (flagged (suc j) y h)
+  as-many-turns-as-calls (x ∷ cs) k fs c flagged =
+      one-more-or-not _ _ x cs (flagged-now pending k fs x cs flagged) (as-many-turns-as-calls cs (k + 1) _ _ (flagged-later pending k fs x cs flagged _))
 
 futures-kept : (m : Machine) (i : ℕ) → hop m i .machine .futures ≡ m .futures
 unfolding hop

@@ -11,7 +11,7 @@ use mathlib.Core.Logic.{_≢_}
 use native.Mathlib.Omega.{arith}
 use lib.Dec.{eqb}
 use lib.ListN.{length}
-use borrow.Author.Tests.{eqb-false}
+use borrow.Author.Tests.{eqb-false, eq-eqb}
 use Rattle.chain.specs.Positions.{at, At, In}
 use Rattle.chain.specs.Chain.{Chain}
 use Rattle.chain.proofs.Positions.{none-is-not-some, some-injective, within, element}
@@ -51,11 +51,11 @@ ok-is-no-item v e = let z : _≡_ {A = ℕ} 0 1 = cc in omega arith
 empty-is-no-item : (v : Item) → outcome.Empty ≡ outcome.Item v → ⊥
 empty-is-no-item v e = let z : _≡_ {A = ℕ} 0 1 = cc in omega arith
 
-different-links-differ : (l m : Link) → sameLink l m ≡ false → led l ≡ led m → ⊥
-different-links-differ None None e p = true≢false e
-different-links-differ None (To y) e p = none-is-not-some refl p
-different-links-differ (To x) None e p = none-is-not-some refl (sym p)
-different-links-differ (To x) (To y) e p = eqb-false x y e (some-injective p)
+pub links-that-lead-alike : (l m : Link) → led l ≡ led m → sameLink l m ≡ true
+links-that-lead-alike None None p = refl
+links-that-lead-alike None (To y) p = absurd (none-is-not-some refl p)
+links-that-lead-alike (To x) None p = absurd (none-is-not-some refl (sym p))
+links-that-lead-alike (To x) (To y) p = eq-eqb x y (some-injective p)
 
 second-is-false : (a b : Bool) → (a || b) ≡ false → b ≡ false
 second-is-false true b e = absurd (true≢false e)
@@ -81,22 +81,23 @@ abbrev pub Ready : List ℕ → ℕ → Supply → ℕ → Type 0
 Ready chain node (Batch link noneLeft) toCome = BatchReady chain node link toCome
 Ready chain node (Dequeues left) toCome = DequeuesReady chain node left
 
+-- what a turn reads
+abbrev pub readBy : List Cell → List Item → ℕ → ℕ → Supply → Around
+readBy links items last node s = around links items last (record { at = node; supply = s })
+
+-- a link that leads to a position of the chain: the node there
+pub node-it-leads-to : (chain : List ℕ) (k : ℕ) (l : Link) (else : ℕ) → led l ≡ at chain k → k < length chain → At chain k (nodeBehind l else)
+node-it-leads-to chain k None else e h = absurd (none-is-not-some (sym e) (element chain k h .1))
+node-it-leads-to chain k (To x) else e h = sym e
+
 module _ (links : List Cell) (chain : List ℕ) (linked : Chain (next links) chain) (dummy : At chain 0 0) (items : List Item) (last : ℕ) where
   leads-where-there-is-a-node : (k : ℕ) (l : Link) → led l ≡ at chain k → k < length chain → LeadsTo chain l
   leads-where-there-is-a-node k l e h =
       let x = element chain k h in record { node = x .0; is = link-to l (x .0) (e ∙ x .1); inChain = (k, x .1) }
 
-  node-it-leads-to : (k : ℕ) (l : Link) (else : ℕ) → led l ≡ at chain k → k < length chain → At chain k (nodeBehind l else)
-  node-it-leads-to k None else e h = absurd (none-is-not-some (sym e) (element chain k h .1))
-  node-it-leads-to k (To x) else e h = sym e
-
   in-chain-or-the-dummy : (k : ℕ) (l : Link) → led l ≡ at chain k → In chain (nodeBehind l 0)
   in-chain-or-the-dummy k None e = (0, dummy)
   in-chain-or-the-dummy k (To x) e = (k, sym e)
-
-  -- what a turn reads
-  abbrev readBy : ℕ → Supply → Around
-  readBy node s = around links items last (record { at = node; supply = s })
 
   -- a turn with the result that it pays
   abbrev turnWith : ℕ → Supply → Bool → Paid → Turn
@@ -108,7 +109,7 @@ module _ (links : List Cell) (chain : List ℕ) (linked : Chain (next links) cha
 
   module _ (node : ℕ) (link : Link) (noneLeft : Bool) (toCome : ℕ) where
     enqueue-pays : BatchReady chain node link (suc toCome)
-        → Pays node (Batch link noneLeft) true toCome (payBatch node link noneLeft true (readBy node (Batch link noneLeft)))
+        → Pays node (Batch link noneLeft) true toCome (payBatch node link noneLeft true (readBy links items last node (Batch link noneLeft)))
     enqueue-pays r =
         let inside : r .ahead < length chain = omega (arith, r .room) in (
           record {
@@ -121,14 +122,14 @@ module _ (links : List Cell) (chain : List ℕ) (linked : Chain (next links) cha
             position = r .position;
             head = r .head;
             ahead = suc (r .ahead);
-            leads = linked .links (r .ahead) _ (node-it-leads-to (r .ahead) link 0 (r .leads) inside);
+            leads = linked .links (r .ahead) _ (node-it-leads-to chain (r .ahead) link 0 (r .leads) inside);
             before = omega (arith, r .before);
             room = omega (arith, r .room);
           },
         )
 
     dequeue-pays : BatchReady chain node link toCome
-        → Pays node (Batch link noneLeft) false toCome (payBatch node link noneLeft false (readBy node (Batch link noneLeft)))
+        → Pays node (Batch link noneLeft) false toCome (payBatch node link noneLeft false (readBy links items last node (Batch link noneLeft)))
     dequeue-pays r = by (noneLeft || sameLink behind link) refl
       where
         behind : Link
@@ -140,7 +141,7 @@ module _ (links : List Cell) (chain : List ℕ) (linked : Chain (next links) cha
         by : (b : Bool) → (noneLeft || sameLink behind link) ≡ b
             → Pays node (Batch link noneLeft) false toCome
             (cond b (paid outcome.Empty node (Batch link noneLeft))
-            (paid (outcome.Item (readBy node (Batch link noneLeft) .item)) (nodeBehind behind node) (Batch link (eqb (nodeBehind behind node) last))))
+            (paid (outcome.Item (readBy links items last node (Batch link noneLeft) .item)) (nodeBehind behind node) (Batch link (eqb (nodeBehind behind node) last))))
         by true e = (
           record {
             readsHead = (r .position, r .head);
@@ -152,7 +153,7 @@ module _ (links : List Cell) (chain : List ℕ) (linked : Chain (next links) cha
         )
         by false e =
             let apart : suc (r .position) ≢ r .ahead =
-            λ q. different-links-differ behind link (second-is-false noneLeft (sameLink behind link) e) (leads-on ∙ ap (at chain) q ∙ sym (r .leads)) in
+            λ q. true≢false (sym (links-that-lead-alike behind link (leads-on ∙ ap (at chain) q ∙ sym (r .leads))) ∙ second-is-false noneLeft (sameLink behind link) e) in
             let inside : suc (r .position) < length chain = omega (arith, r .before, r .room) in (
               record {
                 readsHead = (r .position, r .head);
@@ -162,7 +163,7 @@ module _ (links : List Cell) (chain : List ℕ) (linked : Chain (next links) cha
               },
               record {
                 position = suc (r .position);
-                head = node-it-leads-to (suc (r .position)) behind node leads-on inside;
+                head = node-it-leads-to chain (suc (r .position)) behind node leads-on inside;
                 ahead = r .ahead;
                 leads = r .leads;
                 before = omega (arith, r .before);
@@ -171,7 +172,7 @@ module _ (links : List Cell) (chain : List ℕ) (linked : Chain (next links) cha
             )
 
   module _ (node left : ℕ) (enqueue : Bool) (toCome : ℕ) where
-    taken-pays : DequeuesReady chain node left → Pays node (Dequeues left) enqueue toCome (payDequeues node left (readBy node (Dequeues left)))
+    taken-pays : DequeuesReady chain node left → Pays node (Dequeues left) enqueue toCome (payDequeues node left (readBy links items last node (Dequeues left)))
     taken-pays r = by (eqb left 0) refl
       where
         behind : Link
@@ -182,7 +183,7 @@ module _ (links : List Cell) (chain : List ℕ) (linked : Chain (next links) cha
 
         by : (b : Bool) → eqb left 0 ≡ b
             → Pays node (Dequeues left) enqueue toCome
-            (cond b (paid outcome.Empty node (Dequeues left)) (paid (outcome.Item (readBy node (Dequeues left) .item)) (nodeBehind behind node) (Dequeues (left - 1))))
+            (cond b (paid outcome.Empty node (Dequeues left)) (paid (outcome.Item (readBy links items last node (Dequeues left) .item)) (nodeBehind behind node) (Dequeues (left - 1))))
         by true e = (
           record {
             readsHead = (r .position, r .head);
@@ -203,14 +204,14 @@ module _ (links : List Cell) (chain : List ℕ) (linked : Chain (next links) cha
               },
               record {
                 position = suc (r .position);
-                head = node-it-leads-to (suc (r .position)) behind node leads-on inside;
+                head = node-it-leads-to chain (suc (r .position)) behind node leads-on inside;
                 enough = omega (arith, r .enough);
               },
             )
 
   -- one turn
   pays : (node : ℕ) (s : Supply) (enqueue : Bool) (toCome : ℕ) → Ready chain node s (cond enqueue (suc toCome) toCome)
-      → Pays node s enqueue toCome (pay node s enqueue (readBy node s))
+      → Pays node s enqueue toCome (pay node s enqueue (readBy links items last node s))
   pays node (Batch link noneLeft) true toCome r = enqueue-pays node link noneLeft toCome r
   pays node (Batch link noneLeft) false toCome r = dequeue-pays node link noneLeft toCome r
   pays node (Dequeues left) enqueue toCome r = taken-pays node left enqueue toCome r
