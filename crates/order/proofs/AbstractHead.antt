@@ -83,7 +83,7 @@ ArrivesAt g q (A7 s x) = At (g .chain) q x
 ArrivesAt g q (A8 t x) = ⊥
 
 -- a batch that is linked is linked behind some position
-linked-somewhere : (g : Ghost) → InvEnds g → (a j : ℕ) → At (g .by) j (some a) → (p : ℕ) × Linked g a p
+pub linked-somewhere : (g : Ghost) → InvEnds g → (a j : ℕ) → At (g .by) j (some a) → (p : ℕ) × Linked g a p
 linked-somewhere g ends a zero h = absurd (none-is-not-some {x = a} refl (some-injective (sym (ends .byNobody) ∙ h)))
 linked-somewhere g ends a (suc j) h =
     let p = element (g .ends) j (omega (arith, within (g .by) (suc j) h, ends .sameLength)) in

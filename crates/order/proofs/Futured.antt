@@ -1,13 +1,13 @@
 -- What holds of futures and results while a machine runs. A future that waits is one of its thread's pending calls; one that is done holds the
 -- result that the run of the order gives for its call. A call that took effect and has futures has ended, and they are done, or it is the
 -- call that its thread is in.
-use Prim.Native.Nat.{ℕ, suc, _%_, _<_, _≤_}
-use mathlib.Core.Path.{_≡_, refl, sym, ap, _∙_, subst}
-use mathlib.Core.List.{List, [], _∷_, _++_, map}
+use Prim.Native.Nat.{ℕ, _<_, _≤_}
+use mathlib.Core.Path.{_≡_}
+use mathlib.Core.List.{List, [], map}
 use mathlib.Core.Option.{some}
 use mathlib.Core.Logic.{_⊎_, _≢_}
 use lib.ListN.{length, getD}
-use Rattle.chain.specs.Positions.{at, At, In}
+use Rattle.chain.specs.Positions.{At, In}
 use Rattle.tally.specs.Fifo.{Result}
 use Rattle.thread.specs.declared.Place.the-variants.{Idle}
 use Rattle.thread.specs.declared.After.{After}

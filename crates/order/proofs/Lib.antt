@@ -40,6 +40,15 @@ pub mod Reached
 pub mod LinkedSoFar
 pub mod Fits
 pub mod Ran
+pub mod ResultsTold
 pub mod Orderly
+pub mod HeadPositions
+pub mod OrderStays
+pub mod Placed
+pub mod OrderKept
 pub mod Futured
+pub mod OrderFine
+pub mod OrderEffects
+pub mod EnqueueEffects
 pub mod Promises
+pub mod OrderCases

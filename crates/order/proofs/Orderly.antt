@@ -1,17 +1,16 @@
 -- What holds of the order of effect while a machine runs. The items enqueued in the order are those of the chain behind the dummy, and as many of
 -- them were taken as the abstract head's position says. So running the order leaves the contents, whatever the order is.
-use Prim.Native.Nat.{ℕ, zero, suc, _+_, _-_, _%_, _<_, _≤_}
-use mathlib.Core.Path.{_≡_, refl, sym, ap, _∙_, subst}
+use Prim.Native.Nat.{ℕ, zero, suc, _+_, _-_, _<_, _≤_}
+use mathlib.Core.Path.{_≡_, refl, sym, ap, _∙_}
 use mathlib.Core.List.{List, [], _∷_, _++_, map}
-use mathlib.Core.Option.{Option, none, some}
-use mathlib.Core.Logic.{_⊎_, _≢_}
+use mathlib.Core.Option.{none, some}
+use mathlib.Core.Logic.{_⊎_}
 use native.Mathlib.Omega.{arith}
-use lib.ListN.{length, getD, drop, take}
+use lib.ListN.{length, drop, take}
 use lib.Seq.{drop-drop}
-use Rattle.chain.specs.Positions.{at, At, In}
-use Rattle.tally.specs.Fifo.{Call, enqueue, dequeue, Result, ok, results}
-use Rattle.tally.specs.Excess.{enqueued, dequeues}
-use Rattle.memory.specs.declared.Front.{Front}
+use Rattle.chain.specs.Positions.{At, In}
+use Rattle.tally.specs.Fifo.{Call, enqueue, dequeue, ok, results}
+use Rattle.tally.specs.Excess.{enqueued, enqueues}
 use Rattle.thread.specs.declared.Place.{Place}
 use Rattle.thread.specs.declared.Place.the-variants.{Idle, Enqueue, Dequeue, Batch, Dequeues, Running}
 use Rattle.thread.specs.declared.Resume.{Resume}
@@ -24,12 +23,10 @@ use Rattle.thread.specs.declared.dequeues.Walk.{Walk}
 use Rattle.thread.specs.declared.dequeues.DequeuesStep.{DequeuesStep}
 use Rattle.thread.specs.declared.dequeues.DequeuesStep.the-variants.{Q1, Q2, Q3}
 use Rattle.row.specs.declared.Row.{Row}
-use Rattle.call.specs.declared.answer.Item.{Item}
 use Rattle.machine.specs.declared.Machine.{Machine}
-use Rattle.machine.specs.State.{rowAt, noItem}
 use Rattle.machine.specs.Contents.{contents}
 use Rattle.order.specs.Promises.{requestIn}
-use Rattle.order.specs.Order.{Called, Effect, Story, Remembered, of, Ran, ran, leaves}
+use Rattle.order.specs.Order.{Called, Effect, Story, of, Ran, ran, leaves}
 use Rattle.order.proofs.Ghost.{Ghost, Batch as GhostBatch}
 use Rattle.order.proofs.Shared.{sharedOf}
 use Rattle.order.proofs.Invariant.{Inv, Linked, NotLinked}
@@ -37,57 +34,65 @@ use Rattle.order.proofs.AbstractHead.{headPosition, contents-are-the-it
 use Rattle.order.proofs.PairingResults.{valueOf}
 use Rattle.order.proofs.Ran.{enqueuedIn, takenIn, leaves-is, OnlyEnqueues}
 
--- the items of nodes
-abbrev pub values : Machine → List ℕ → List ℕ
-values m l = map (valueOf (m .items)) l
-
-pub map-drop : (f : ℕ → ℕ) (k : ℕ) (l : List ℕ) → map f (drop k l) ≡ drop k (map f l)
-map-drop f zero l = refl
-map-drop f (suc k) [] = refl
-map-drop f (suc k) (x ∷ l) = map-drop f k l
+-- the items of the chain's nodes
+abbrev pub itemsOf : Machine → Ghost → List ℕ
+itemsOf m g = map (valueOf (m .items)) (g .chain)
 
 -- no call of that thread that began at that time stands in the order
 abbrev pub NotIn : List Effect → Called → Type 0
 NotIn order c = (j : ℕ) (x : Effect) → At order j x → x .call .thread ≡ c .thread → x .call .began ≡ c .began → ⊥
 
--- the part of the chain behind an announcement's old head, up to where its batch was linked
-abbrev pub met : Machine → Ghost → ℕ → ℕ → List ℕ
-met m g a p = let h = requestIn m a .«old_head» .count .0 in values m (take (p - h) (drop (suc h) (g .chain)))
+-- calls stand at rising times, none twice, and none before it began
+pub record Rows (order : List Effect) (clock : ℕ) : Type 0 where
+  pub began : (j : ℕ) (x : Effect) → At order j x → x .call .began ≤ x .place
+  pub past : (j : ℕ) (x : Effect) → At order j x → x .place < clock
+  pub rising : (j k : ℕ) (x y : Effect) → At order j x → At order k y → j < k → x .place < y .place
+  pub once : (j k : ℕ) (x y : Effect) → At order j x → At order k y → x .call .thread ≡ y .call .thread → x .call .began ≡ y .call .began → j ≡ k
 
--- a linked batch was run on what its announcement met
-pub record RunOn (m : Machine) (g : Ghost) (s : Story) (a p : ℕ) (c : Called) : Type 0 where
-  pub place : ℕ
-  pub there : In (ran (s .order) []) (record { effect = record { call = c; place = place }; results = results (c .calls) (met m g a p) })
-
-pub record Orderly (m : Machine) (g : Ghost) (s : Story) : Type 0 where
-  pub chain : enqueuedIn (s .order) ≡ values m (drop 1 (g .chain))
-  pub head : takenIn (s .order) [] ≡ headPosition m g
-  pub began : (j : ℕ) (x : Effect) → At (s .order) j x → x .call .began ≤ x .place
-  pub past : (j : ℕ) (x : Effect) → At (s .order) j x → x .place < s .clock
-  pub rising : (j k : ℕ) (x y : Effect) → At (s .order) j x → At (s .order) k y → j < k → x .place < y .place
-  pub once : (j k : ℕ) (x y : Effect) → At (s .order) j x → At (s .order) k y → x .call .thread ≡ y .call .thread → x .call .began ≡ y .call .began → j ≡ k
-  -- announcements
+-- the calls of the announcements are those of their batches, whose nodes have the items
+pub record Announced (m : Machine) (g : Ghost) (s : Story) : Type 0 where
   pub many : length (s .announced) ≡ length (g .batches)
   pub calls : (a : ℕ) (b : GhostBatch) (c : Called) → At (g .batches) a b → At (s .announced) a c → c .calls ≡ b .calls
-  pub items : (a : ℕ) (b : GhostBatch) → At (g .batches) a b → enqueued (b .calls) ≡ values m (b .nodes)
+  pub items : (a : ℕ) (b : GhostBatch) → At (g .batches) a b → enqueued (b .calls) ≡ map (valueOf (m .items)) (b .nodes)
   pub early : (a : ℕ) (c : Called) → At (s .announced) a c → c .began < s .clock
   pub apart : (a b : ℕ) (c d : Called) → At (s .announced) a c → At (s .announced) b d → c .thread ≡ d .thread → c .began ≡ d .began → a ≡ b
+
+-- the items that an announcement found between its old head and the position where its batch was linked
+abbrev pub found : Machine → Ghost → ℕ → ℕ → List ℕ
+found m g a p = let h = requestIn m a .«old_head» .count .0 in take (p - h) (drop (suc h) (itemsOf m g))
+
+-- a linked batch was run on them, and its items stand in the chain behind that position
+pub record RunOn (m : Machine) (g : Ghost) (s : Story) (a p : ℕ) (c : Called) : Type 0 where
+  pub items : take (enqueues (c .calls)) (drop (suc p) (itemsOf m g)) ≡ enqueued (c .calls)
+  pub place : ℕ
+  pub early : place < s .clock
+  pub there : In (ran (s .order) []) (record { effect = record { call = c; place = place }; results = results (c .calls) (found m g a p) })
+
+pub record Orderly (m : Machine) (g : Ghost) (s : Story) : Type 0 where
+  pub chain : enqueuedIn (s .order) ≡ drop 1 (itemsOf m g)
+  pub head : takenIn (s .order) [] ≡ headPosition m g
+  pub rows : Rows (s .order) (s .clock)
+  pub announced : Announced m g s
   pub linked : (a p : ℕ) (c : Called) → Linked g a p → At (s .announced) a c → RunOn m g s a p c
   pub unlinked : (a : ℕ) (c : Called) → NotLinked g a → At (s .announced) a c → NotIn (s .order) c
 
 -- running the order leaves the contents
-module _ (m : Machine) (g : Ghost) (s : Story) (i : Inv (sharedOf m) g) (h : Orderly m g s) where
-  pub queue-is : leaves (s .order) [] ≡ values m (drop (suc (headPosition m g)) (g .chain))
+map-drop : (f : ℕ → ℕ) (k : ℕ) (l : List ℕ) → map f (drop k l) ≡ drop k (map f l)
+map-drop f zero l = refl
+map-drop f (suc k) [] = refl
+map-drop f (suc k) (x ∷ l) = map-drop f k l
+
+module _ (m : Machine) (g : Ghost) (s : Story) (h : Orderly m g s) where
+  pub queue-is : leaves (s .order) [] ≡ drop (suc (headPosition m g)) (itemsOf m g)
   queue-is =
       leaves-is (s .order) []
       ∙ ap (λ (k : ℕ). drop k (enqueuedIn (s .order))) (h .head)
-      ∙ ap (drop (headPosition m g)) (h .chain ∙ map-drop _ 1 (g .chain))
-      ∙ drop-drop (headPosition m g) 1 (values m (g .chain))
-      ∙ ap (λ (k : ℕ). drop k (values m (g .chain))) (let z : 1 + headPosition m g ≡ suc (headPosition m g) = omega arith in z)
-      ∙ sym (map-drop _ (suc (headPosition m g)) (g .chain))
+      ∙ ap (drop (headPosition m g)) (h .chain)
+      ∙ drop-drop (headPosition m g) 1 (itemsOf m g)
+      ∙ ap (λ (k : ℕ). drop k (itemsOf m g)) (let z : 1 + headPosition m g ≡ suc (headPosition m g) = omega arith in z)
 
-  pub contents-are-left : leaves (s .order) [] ≡ contents m
-  contents-are-left = queue-is ∙ sym (contents-are-the-items-behind m g i)
+  pub contents-are-left : Inv (sharedOf m) g → leaves (s .order) [] ≡ contents m
+  contents-are-left i = queue-is ∙ sym (map-drop _ (suc (headPosition m g)) (g .chain)) ∙ sym (contents-are-the-items-behind m g i)
 
 -- WHAT A THREAD KNOWS of the order.
 -- the call that it is in has not taken effect, and is not one of an announcement
@@ -111,6 +116,7 @@ pub record Enqueued (s : Story) (t : ℕ) : Type 0 where
   pub thread : of s t .called .thread ≡ t
   pub futures : of s t .called .futures ≡ []
   pub asked : of s t .called .asked ≡ none
+  pub notAnnounced : (a : ℕ) (c : Called) → At (s .announced) a c → c .thread ≡ t → c .began ≡ of s t .called .began → ⊥
   pub place : ℕ
   pub early : place < s .clock
   pub there : In (ran (s .order) []) (record { effect = record { call = of s t .called; place = place }; results = ok ∷ [] })
@@ -149,6 +155,7 @@ pub record KnowsQ3 (m : Machine) (g : Ghost) (s : Story) (t : ℕ) (w : Walk) : 
   pub found : 0 < w .taken
   pub few : w .taken ≤ length (of s t .calls)
   pub read : of s t .called .began ≤ of s t .lastRead
+  pub recent : of s t .lastRead < s .clock
   pub window : headPosition m g ≡ w .front .count .0 → Window s t (w .front .count .0) (w .taken)
 
 abbrev pub KnowsOfEnqueue : Machine → Story → ℕ → ℕ → EnqueueStep → Type 0
