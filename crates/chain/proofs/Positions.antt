@@ -1,7 +1,7 @@
 -- What is known of lists by position: one element at each, none past the end, and positions stay where a list grows at its end.
 use Prim.Native.Nat.{ℕ, zero, suc, _+_, _-_, _<_, _≤_}
 use mathlib.Core.Path.{_≡_, refl, sym, ap, _∙_}
-use mathlib.Core.List.{List, [], _∷_, _++_}
+use mathlib.Core.List.{List, [], _∷_, _++_, map}
 use mathlib.Core.Option.{Option, none, some}
 use mathlib.Core.Logic.{_⊎_, inl, inr}
 use native.Mathlib.Omega.{arith}
@@ -109,3 +109,10 @@ module _ {A : Type 0} where
   unfolding at
   the-only-one x y zero w = sym (some-injective w)
   the-only-one x y (suc k) w = absurd (none-is-not-some refl w)
+
+-- the elements, each mapped
+pub at-map : {A B : Type 0} (f : A → B) (c : List A) (k : ℕ) {x : A} → At c k x → At (map f c) k (f x)
+unfolding at
+at-map f [] k p = absurd (none-is-not-some refl p)
+at-map f (y ∷ ys) zero p = ap (λ z. some (f z)) (some-injective p)
+at-map f (y ∷ ys) (suc k) p = at-map f ys k p

@@ -1,7 +1,6 @@
 -- Enqueue: it takes effect when e2 is taken, and is run there on whatever the queue holds; e3 ends it with ok.
 use Prim.Native.Nat.{ℕ, suc, _+_}
 use mathlib.Core.Path.{_≡_, refl, sym, ap, _∙_, subst}
-use mathlib.Core.Bool.{Bool, true, false}
 use mathlib.Core.List.{List, [], _∷_}
 use mathlib.Core.Option.{none, some}
 use mathlib.Core.Logic.{inl, inr, ⊎-elim, _≢_}
@@ -16,12 +15,11 @@ use Rattle.memory.specs.declared.Tail.{Tail}
 use Rattle.memory.specs.declared.Link.{Link}
 use Rattle.memory.specs.declared.Link.the-variants.{None, To}
 use Rattle.memory.specs.Ends.{pastTail, sameTail}
-use Rattle.memory.specs.Memory.{Memory, cellAt, withLink, linkCas, tailCas, perform}
+use Rattle.memory.specs.Memory.{Memory, cellAt, withLink, linkCas, perform}
 use Rattle.memory.specs.Found.{linkIn}
 use Rattle.thread.specs.declared.enqueue.EnqueueStep.{EnqueueStep}
 use Rattle.thread.specs.declared.enqueue.EnqueueStep.the-variants.{E1, E2, E3, E4, E5}
 use Rattle.thread.specs.declared.Place.the-variants.{Idle}
-use Rattle.thread.specs.declared.After.{After}
 use Rattle.thread.specs.declared.After.the-variants as afterwards
 use Rattle.thread.specs.Enqueue.{enqueueAccess, enqueueAfter, afterE2, afterE4, enqueueAt}
 use Rattle.row.specs.declared.Row.{Row}
@@ -39,7 +37,7 @@ use Rattle.order.proofs.PairingResults.{valueOf}
 use Rattle.order.proofs.Orderly.{WaitsSingle, Enqueued, KnowsOfEnqueue, Onward}
 use Rattle.order.proofs.OrderStays.{waits-single-stay}
 use Rattle.order.proofs.Futured.{InCall}
-use Rattle.order.proofs.OrderFine.{stepStory, SingleEnded, OrderFine, KnowsOfAfter, of-own, of-other, Here, quietly, only-reads}
+use Rattle.order.proofs.OrderFine.{stepStory, SingleEnded, OrderFine, of-own, of-other, Here, moves-the-tail, only-reads}
 use Rattle.order.proofs.OrderEffects.{not-of-another, now-orderly, now-onward, now-takes-effect, last-ran}
 
 -- a single node linked behind the tail links no batch
@@ -108,8 +106,11 @@ module _ (m : Machine) (g : Ghost) (s : Story) (i : ℕ) (r : Row) (here : Here 
           (λ a p d w q. inl (no-batch g (here .inv .ends) l (n ∷ []) a p w)) (λ a d k q t b. waits .0 .notAnnounced a d q (sym t ∙ waits .0 .thread) (sym b));
       onward = λ u ne. now-onward m g s (here .inv) (here .orderly) i m′ g′ grows refl refl read c (waits .0 .notIn) (n ∷ []) refl own-item head-stays (omega (arith, waits .0 .began))
           u (of-other s i (nowLast s i) read u ne) (not-of-another m g s (here .inv) (here .orderly) i m′ g′ grows refl refl read c (waits .0 .notIn) (waits .0 .thread) u ne);
-      effect = inr (_, now-takes-effect m g s (here .inv) (here .orderly) i m′ g′ grows refl refl read c (waits .0 .notIn) (n ∷ []) refl own-item head-stays (omega (arith, waits .0 .began))
-          (own-call m g s i here (waits .0 .thread)) (inl (waits .1 .futures)));
+      effect = inr (
+        _,
+        now-takes-effect m g s (here .inv) (here .orderly) i m′ g′ grows refl refl read c (waits .0 .notIn) (n ∷ []) refl own-item head-stays (omega (arith, waits .0 .began))
+            (own-call m g s i here (waits .0 .thread)) (inl (waits .1 .futures)),
+      );
       knows = record {
         thread = ap (λ (x : Remembered). x .called .thread) own ∙ waits .0 .thread;
         futures = ap (λ (x : Remembered). x .called .futures) own ∙ waits .1 .futures;
@@ -136,14 +137,6 @@ module _ (m : Machine) (g : Ghost) (s : Story) (i : ℕ) (r : Row) (here : Here 
   e2-order l None w inv′ grows = e2-taken l w inv′ grows
   e2-order l (To y) w inv′ grows = only-reads m g s i r here _ (waiting-on (memoryOf m) (E4 l y) w)
 
-  tail-order : (to : Tail) (b : Bool) → (a : After)
-      → Inv (inMemory (sharedOf m) (tailCas (memoryOf m) to b .memory)) g → Grows (sharedOf m) g (inMemory (sharedOf m) (tailCas (memoryOf m) to b .memory)) g
-      → (Onward m g s (withMemory m (tailCas (memoryOf m) to b .memory)) g (stepStory s i (s .order) read) i
-        → KnowsOfAfter (withMemory m (tailCas (memoryOf m) to b .memory)) g s (stepStory s i (s .order) read) i r a)
-      → OrderFine m g s i r (withMemory m (tailCas (memoryOf m) to b .memory)) g (stepStory s i (s .order) read) a
-  tail-order to true a inv′ grows k = quietly m g s i r here _ inv′ grows refl a k
-  tail-order to false a inv′ grows k = quietly m g s i r here _ inv′ grows refl a k
-
   e4-order : (l : Tail) (x : ℕ) → WaitsSingle s i (enqueue v) → (y : Head) → OrderFine m g s i r (withMemory m (memoryOf m)) g (stepStory s i (s .order) read) (afterE4 n l x y)
   e4-order l x w (Plain f) = only-reads m g s i r here _ (waiting-on (memoryOf m) (E5 l x) w)
   e4-order l x w (Announced a) = only-reads m g s i r here _ (waiting-on (memoryOf m) E1 w)
@@ -159,6 +152,6 @@ module _ (m : Machine) (g : Ghost) (s : Story) (i : ℕ) (r : Row) (here : Here 
   unfolding perform enqueueAccess enqueueAfter
   enqueue-order E1 w inv′ grows = only-reads m g s i r here _ (waiting-on (memoryOf m) (E2 (m .ends .tail)) w)
   enqueue-order (E2 l) w inv′ grows = e2-order l (cellAt (m .links) (l .node) .link) w inv′ grows
-  enqueue-order (E3 l) w inv′ grows = tail-order (pastTail l n 1) (sameTail (m .ends .tail) l) afterwards.Ok inv′ grows (λ on. ended (memoryOf m) w)
+  enqueue-order (E3 l) w inv′ grows = moves-the-tail m g s i r here (pastTail l n 1) (sameTail (m .ends .tail) l) afterwards.Ok inv′ grows (λ on. ended (memoryOf m) w)
   enqueue-order (E4 l x) w inv′ grows = e4-order l x w (m .ends .head)
-  enqueue-order (E5 l x) w inv′ grows = tail-order (pastTail l x 1) (sameTail (m .ends .tail) l) (enqueueAt n E1) inv′ grows (waiting-on _ E1 w)
+  enqueue-order (E5 l x) w inv′ grows = moves-the-tail m g s i r here (pastTail l x 1) (sameTail (m .ends .tail) l) (enqueueAt n E1) inv′ grows (waiting-on _ E1 w)

@@ -24,6 +24,6 @@ module _ (m m′ : Machine) (g g′ : Ghost) (i : Inv (sharedOf m) g) (i′ : In
           let request = grows .request a (i .head .thereInstalled a e) in
           ⊎-elim {C = headPosition m′ g′ ≡ headPosition m g}
           (λ w. let l = linked-somewhere g (i .ends) a (w .0) (w .1) in
-              position-once-linked m′ g′ i′ a (l .0) (same ∙ e) (linked-stays grows (l .1)) ∙ ap (λ (k : Request). goalFrom k (l .0)) request ∙ sym (position-once-linked m g i a (l .0) e (l .1)))
+          position-once-linked m′ g′ i′ a (l .0) (same ∙ e) (linked-stays grows (l .1)) ∙ ap (λ (k : Request). goalFrom k (l .0)) request ∙ sym (position-once-linked m g i a (l .0) e (l .1)))
           (λ n. position-until-linked m′ g′ i′ a (same ∙ e) (unlinked a n) ∙ ap (λ (k : Request). k .«old_head» .count .0) request ∙ sym (position-until-linked m g i a e n))
           (linked-or-not (g .by) a)

@@ -64,7 +64,7 @@ module _ (m : Machine) (g : Ghost) (ok : Ok m g) (i : ℕ) (lt : i < 8) where
   unfolding hop
   inv₁ = fine .inv
 
-  grows₁ : Grows (sharedOf m) g (sharedOf m₁) g₁
+  pub grows₁ : Grows (sharedOf m) g (sharedOf m₁) g₁
   unfolding hop
   grows₁ = fine .grows
 
@@ -72,7 +72,7 @@ module _ (m : Machine) (g : Ghost) (ok : Ok m g) (i : ℕ) (lt : i < 8) where
   unfolding hop
   spares₁ = fine .spares
 
-  knows₁ : (a : After) → hop m i .after ≡ a → KnowsAfter (sharedOf m₁) g₁ i (rowAt m i) a
+  pub knows₁ : (a : After) → hop m i .after ≡ a → KnowsAfter (sharedOf m₁) g₁ i (rowAt m i) a
   unfolding hop
   knows₁ a e = subst (KnowsAfter (sharedOf m₁) g₁ i (rowAt m i)) e (fine .knows)
 

@@ -117,10 +117,12 @@ module _ (m : Machine) (g : Ghost) (s : Story) (inv : Inv (sharedOf m) g) (h : O
       announced = λ a d p. p;
       announcedOwn = λ a d p e. p;
       notIn = λ d e apart none. not-in-with old new x d (subst (λ (l : List Effect). NotIn l d) order none) (notOf d e apart);
-      only = λ e some. let w = quiet e some in
-          (x ∷ [], ap (λ (l : List Effect). old ++ (x ∷ l)) (w .0) ∙ ap (λ (l : List Effect). l ++ (x ∷ [])) (sym (order ∙ ap (λ (l : List Effect). old ++ l) (w .0) ∙ append-nil old)),
-            (λ j y p. subst (λ (z : Effect). dequeues (z .call .calls) ≡ 0) (sym (the-only-one x y j p)) (w .1)),
-            λ j y p. subst (λ (z : Effect). s .clock ≤ z .place) (sym (the-only-one x y j p)) (w .2));
+      only = λ e some. let w = quiet e some in (
+        x ∷ [],
+        ap (λ (l : List Effect). old ++ (x ∷ l)) (w .0) ∙ ap (λ (l : List Effect). l ++ (x ∷ [])) (sym (order ∙ ap (λ (l : List Effect). old ++ l) (w .0) ∙ append-nil old)),
+        (λ j y p. subst (λ (z : Effect). dequeues (z .call .calls) ≡ 0) (sym (the-only-one x y j p)) (w .1)),
+        λ j y p. subst (λ (z : Effect). s .clock ≤ z .place) (sym (the-only-one x y j p)) (w .2),
+      );
     }
 
   -- behind all others: nodes are linked with it, and the head moves by as many as it takes

@@ -1,6 +1,7 @@
 -- What a step has to show of the order, and the steps by which nothing takes effect.
 use Prim.Native.Nat.{ℕ, suc, _+_, _<_, _≤_}
 use mathlib.Core.Path.{_≡_, refl, sym, ap, ap₂, _∙_}
+use mathlib.Core.Bool.{Bool, true, false}
 use mathlib.Core.List.{List, [], _∷_, map, append-nil}
 use mathlib.Core.Option.{none}
 use mathlib.Core.Logic.{inl, _≢_}
@@ -9,7 +10,8 @@ use lib.ListN.{length, set, take, drop}
 use lib.Seq.{getD-set-same, getD-set-other}
 use Rattle.chain.specs.Positions.{At, In}
 use Rattle.tally.specs.Fifo.{Result, ok, item, empty, results}
-use Rattle.memory.specs.Memory.{Memory}
+use Rattle.memory.specs.declared.Tail.{Tail}
+use Rattle.memory.specs.Memory.{Memory, tailCas}
 use Rattle.thread.specs.declared.Place.the-variants.{Idle}
 use Rattle.thread.specs.declared.After.{After}
 use Rattle.thread.specs.declared.After.the-variants as afterwards
@@ -103,7 +105,7 @@ module _ (m : Machine) (g : Ghost) (s : Story) (inv : Inv (sharedOf m) g) (h : O
   same-items : itemsOf m′ g′ ≡ itemsOf m g
   same-items = ap₂ (λ (f : List Item) (c : List ℕ). map (valueOf f) c) items chain
 
-  quiet-leaves : Leaves m g s m′ g′ s′
+  pub quiet-leaves : Leaves m g s m′ g′ s′
   quiet-leaves = record {
     grows = grows;
     more = [];
@@ -153,3 +155,12 @@ module _ (m : Machine) (g : Ghost) (s : Story) (i : ℕ) (r : Row) (here : Here 
       → (Onward m g s (withMemory m (memoryOf m)) g (stepStory s i (s .order) (of s i .lastRead)) i → KnowsOfAfter (withMemory m (memoryOf m)) g s (stepStory s i (s .order) (of s i .lastRead)) i r a)
       → OrderFine m g s i r (withMemory m (memoryOf m)) g (stepStory s i (s .order) (of s i .lastRead)) a
   only-reads = quietly (memoryOf m) (here .inv) quiet refl
+
+  -- a CAS of the tail
+  pub moves-the-tail : (to : Tail) (b : Bool) (a : After)
+      → Inv (inMemory (sharedOf m) (tailCas (memoryOf m) to b .memory)) g → Grows (sharedOf m) g (inMemory (sharedOf m) (tailCas (memoryOf m) to b .memory)) g
+      → (Onward m g s (withMemory m (tailCas (memoryOf m) to b .memory)) g (stepStory s i (s .order) (of s i .lastRead)) i
+      → KnowsOfAfter (withMemory m (tailCas (memoryOf m) to b .memory)) g s (stepStory s i (s .order) (of s i .lastRead)) i r a)
+      → OrderFine m g s i r (withMemory m (tailCas (memoryOf m) to b .memory)) g (stepStory s i (s .order) (of s i .lastRead)) a
+  moves-the-tail to true a inv′ grows k = quietly _ inv′ grows refl a k
+  moves-the-tail to false a inv′ grows k = quietly _ inv′ grows refl a k

@@ -132,7 +132,7 @@ module _ (m : Machine) (g : Ghost) (s : Story) (i : Inv (sharedOf m) g) (m′ : 
   walk-stays r (Q2 w) k h = (dequeues-stay r (h .0), seen-stays _ (h .1), omega (arith, h .2, ap length (same (λ x. x .calls))))
   walk-stays r (Q3 w) k h = (dequeues-stay r (h .0), q3-stays w (k .0) (h .1))
 
-  resume-stays : (a : ℕ) (r : Row) (x : Resume) (k : KnowsResume (sharedOf m) g u a r x) → KnowsOfResume m s u a r x → KnowsOfResume m′ s′ u a r x
+  pub resume-stays : (a : ℕ) (r : Row) (x : Resume) (k : KnowsResume (sharedOf m) g u a r x) → KnowsOfResume m s u a r x → KnowsOfResume m′ s′ u a r x
   resume-stays a r (resume.Enqueue n) k h = waits-enqueue-stays u n (k .0) h
   resume-stays a r resume.Dequeue k h = waits-single-stay _ h
   resume-stays a r (resume.Batch b) k h = announces-stays b r h

@@ -79,7 +79,7 @@ module _ (links : List Cell) (items : List Item) (last : ℕ) (pending : List �
   as-many-turns-as-calls (x ∷ cs) k fs c flagged =
       one-more-or-not _ _ x cs (flagged-now pending k fs x cs flagged) (as-many-turns-as-calls cs (k + 1) _ _ (flagged-later pending k fs x cs flagged _))
 
-futures-kept : (m : Machine) (i : ℕ) → hop m i .machine .futures ≡ m .futures
+pub futures-kept : (m : Machine) (i : ℕ) → hop m i .machine .futures ≡ m .futures
 unfolding hop
 futures-kept m i = refl
 

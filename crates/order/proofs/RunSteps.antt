@@ -57,19 +57,19 @@ module _ (s : Shared) (g : Ghost) (i : Inv s g) (t : ℕ) (r : Row) (a : ℕ) (k
 
   -- a3 is taken: the batch is not linked yet, so the announcement is in the head
   module _ (l : Tail) (h : KnowsRun s g a (A3 l)) (free : next (s .links) (l .node) ≡ none) where
-    not-yet : NotLinked g a
+    pub not-yet : NotLinked g a
     not-yet = not-linked-yet s g i t r a there l h free
 
-    in-head : s .head ≡ Announced a
+    pub in-head : s .head ≡ Announced a
     in-head = ⊎-elim (λ w. absurd (not-yet (suc (w .0)) (w .1))) (λ w. w) (i .head .linkedOrThere a there)
 
-    old-head-before : requestOf s a .«old_head» .count .0 ≤ l .count .0
+    pub old-head-before : requestOf s a .«old_head» .count .0 ≤ l .count .0
     old-head-before =
         let x = within (g .chain) _ (i .head .oldHeadAt a there) in
         let y = none-is-the-last (i .chain .chain) (l .count .0) (l .node) (h .0 .is) free in
         omega arith
 
-    batch-joins : Joins s g (batchOf g a .nodes) (requestOf s a .first) (some a) l
+    pub batch-joins : Joins s g (batchOf g a .nodes) (requestOf s a .first) (some a) l
     batch-joins = record {
       beside = i .batches .beside a (batchOf g a) there not-yet own-batch;
       inUse = λ j n p. i .batches .inUse a j n (batchOf g a) own-batch p;
@@ -92,7 +92,7 @@ module _ (s : Shared) (g : Ghost) (i : Inv s g) (t : ℕ) (r : Row) (a : ℕ) (k
     a3-spares : (u : ℕ) → Spares s g (withLinks s (linked (s .links) (l .node) (To (requestOf s a .first)))) (joins g l nodes (some a)) u
     a3-spares u = join-spares s g i nodes (requestOf s a .first) (some a) l (h .0) free batch-joins u (λ n m p. m .notInBatch a (batchOf g a) there own-batch p)
 
-    now-linked : Linked (joins g l nodes (some a)) a (l .count .0)
+    pub now-linked : Linked (joins g l nodes (some a)) a (l .count .0)
     now-linked =
         let f = requestOf s a .first in
         record {
