@@ -1,6 +1,6 @@
 -- Each pending call of a thread has a future that was handed out for it and is flagged as the call is, an enqueue or a dequeue. Futures are
 -- handed out in number order and paying one leaves its flag, so what other threads do leaves the flags of a thread's pending calls as they are.
-use Prim.Native.Nat.{ℕ, suc, _%_, _<_, _≤_}
+use Prim.Native.Nat.{ℕ, suc, _+_, _%_, _<_, _≤_}
 use mathlib.Core.Path.{_≡_, refl, sym, ap, _∙_, subst}
 use mathlib.Core.Bool.{Bool}
 use mathlib.Core.List.{List, [], _∷_, _++_}
@@ -23,7 +23,7 @@ use Rattle.machine.specs.State.{rowAt, noFuture}
 use Rattle.laws.proofs.HandedOut.{futures-in-order}
 use Rattle.order.proofs.Ghost.{Ghost, pendingOf}
 use Rattle.order.proofs.Steps.{Ok}
-use Rattle.order.proofs.PairingCounts.{isEnqueue}
+use Rattle.order.proofs.PairingCounts.{isEnqueue, Flagged}
 
 pub record FlagsOf (fs : List Future) (used : ℕ) (pending : List ℕ) (cs : List (Call ℕ)) : Type 0 where
   pub places : length pending ≡ 32
@@ -168,3 +168,9 @@ module _ (m : Machine) (g : Ghost) (ok : Ok m g) (h : Flags m g) (i : ℕ) (lt :
 
       cs-is : pendingOf g′ i ≡ pendingOf g i ++ (c ∷ [])
       cs-is = ap (λ (l : List (List (Call ℕ))). getD l i []) calls ∙ getD-set-same (g .pending) i _ [] (omega (arith, ok .pendings))
+
+-- so pairing finds them flagged; the calls are at most 32
+pub flagged-here : (m : Machine) (g : Ghost) → Ok m g → Flags m g → (t : ℕ) → t < 8 → Flagged (rowAt m t .pending) (m .futures) (pendingOf g t)
+flagged-here m g ok flags t lt j c p =
+    let place : (0 + j) % 32 ≡ j = omega (arith, within (pendingOf g t) j p, ok .knows t lt .tallied .few) in
+    ap (λ (k : ℕ). getD (m .futures) (getD (rowAt m t .pending) k 0 % 512) noFuture .enqueue) place ∙ flags .each t lt .flagged j c p

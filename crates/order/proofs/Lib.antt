@@ -61,5 +61,8 @@ pub mod EnqueueEffects
 pub mod DequeueEffects
 pub mod DequeuesEffects
 pub mod RunEffects
+pub mod OrderSteps
+pub mod OrderBeside
+pub mod OrderEnds
 pub mod Promises
 pub mod OrderCases

@@ -61,6 +61,8 @@ pub record BatchRan (m′ : Machine) (g′ : Ghost) (s s′ : Story) (i : ℕ) (
   pub linked : Linked g′ announcement position
   pub run : RunOn m′ g′ s′ announcement position (of s i .called)
   pub fromIs : from ≡ requestIn m′ announcement .«old_head» .node
+  pub first : requestIn m′ announcement .first ≡ r .first
+  pub last : requestIn m′ announcement .last ≡ r .last
 
 -- a batch of dequeues has ended: it was run on the nodes that it took behind position h
 pub record DequeuesRan (m′ : Machine) (g′ : Ghost) (s s′ : Story) (i : ℕ) (r : Row) (from taken : ℕ) : Type 0 where

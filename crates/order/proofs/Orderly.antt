@@ -77,10 +77,18 @@ pub record Orderly (m : Machine) (g : Ghost) (s : Story) : Type 0 where
   pub unlinked : (a : ℕ) (c : Called) → NotLinked g a → At (s .announced) a c → NotIn (s .order) c
 
 -- running the order leaves the contents
-map-drop : (f : ℕ → ℕ) (k : ℕ) (l : List ℕ) → map f (drop k l) ≡ drop k (map f l)
+pub map-drop : (f : ℕ → ℕ) (k : ℕ) (l : List ℕ) → map f (drop k l) ≡ drop k (map f l)
 map-drop f zero l = refl
 map-drop f (suc k) [] = refl
 map-drop f (suc k) (x ∷ l) = map-drop f k l
+
+pub map-part : (f : ℕ → ℕ) (k n : ℕ) (l : List ℕ) → map f (take n (drop k l)) ≡ take n (drop k (map f l))
+map-part f k n l = map-take n (drop k l) ∙ ap (take n) (map-drop f k l)
+  where
+    map-take : (n : ℕ) (l : List ℕ) → map f (take n l) ≡ take n (map f l)
+    map-take zero l = refl
+    map-take (suc n) [] = refl
+    map-take (suc n) (x ∷ l) = ap (λ (r : List ℕ). f x ∷ r) (map-take n l)
 
 module _ (m : Machine) (g : Ghost) (s : Story) (h : Orderly m g s) where
   pub queue-is : leaves (s .order) [] ≡ drop (suc (headPosition m g)) (itemsOf m g)

@@ -1,5 +1,5 @@
 -- The promises hold after any list of entries from a fresh machine.
-use Prim.Native.Nat.{ℕ, suc, _+_, _%_, _<_}
+use Prim.Native.Nat.{ℕ, suc, _<_}
 use mathlib.Core.Path.{_≡_, refl, sym, ap, _∙_, subst}
 use mathlib.Core.List.{List, [], _∷_, _++_}
 use mathlib.Core.Option.{some}
@@ -23,10 +23,10 @@ use Rattle.call.specs.declared.answer.Verdict.the-variants.{Accepted}
 use Rattle.call.specs.declared.entry.Entry.{Entry}
 use Rattle.call.specs.Refusals.{inRange}
 use Rattle.machine.specs.declared.Machine.{Machine}
-use Rattle.machine.specs.State.{freshMachine, rowAt, memoryOf, noFuture}
+use Rattle.machine.specs.State.{freshMachine, rowAt, memoryOf}
 use Rattle.machine.specs.Steps.{hop}
 use Rattle.order.specs.Links.{led, next}
-use Rattle.order.proofs.Ghost.{Ghost, pendingOf, freshGhost}
+use Rattle.order.proofs.Ghost.{Ghost, freshGhost}
 use Rattle.order.specs.Reached.{after}
 use Rattle.order.specs.PairingReads.{AllStayOn, turnsAfter}
 use Rattle.order.specs.Promises.{stepLinks, linkSteps, together, linked, OneChain, LastOf, OneBehind, TailNear, HeadsLinked, ReadsOn, WalksStayOn, BatchesWhole, Queue}
@@ -37,8 +37,8 @@ use Rattle.order.proofs.RunSteps.{asks}
 use Rattle.order.proofs.Steps.{Ok}
 use Rattle.order.proofs.ContentsWalk.{link-leads-on}
 use Rattle.order.proofs.AbstractHead.{link-leads-means-linked, walk-stays-in-the-chain, head-or-old-head-at, abstract-head-at, each-met-is-in-the-chain, met-fewer-than-followed, last-link-is-none}
-use Rattle.order.proofs.PairingCounts.{Flagged, flagged-pairing-stays-on}
-use Rattle.order.proofs.Flags.{Flags}
+use Rattle.order.proofs.PairingCounts.{flagged-pairing-stays-on}
+use Rattle.order.proofs.Flags.{Flags, flagged-here}
 use Rattle.order.proofs.Fits.{fits}
 use Rattle.order.proofs.Reached.{fresh-holds, after-holds}
 use Rattle.order.proofs.LinkedSoFar.{Tells, one-more, batch-nodes, place-tells, after-tells, fresh-tells}
@@ -126,18 +126,12 @@ module _ (m : Machine) (g : Ghost) (ok : Ok m g) (steps : List (List ℕ)) (h : 
   reads-on t r (Running a (A7 rise x) k) w = tt
   reads-on t r (Running a (A8 l x) k) w = tt
 
-  -- the futures of the pending calls are flagged as the calls, of which there are at most 32
-  flagged-here : (t : ℕ) → t < 8 → Flagged (rowAt m t .pending) (m .futures) (pendingOf g t)
-  flagged-here t lt j c p =
-      let place : (0 + j) % 32 ≡ j = omega (arith, within (pendingOf g t) j p, ok .knows t lt .tallied .few) in
-      ap (λ (k : ℕ). getD (m .futures) (getD (rowAt m t .pending) k 0 % 512) noFuture .enqueue) place ∙ flags .each t lt .flagged j c p
-
   pairing-stays : (t : ℕ) → t < 8
       → AllStayOn (hop m t .machine .links) (linked (steps ++ stepLinks (memoryOf m) (rowAt m t .place))) (turnsAfter (hop m t .machine) t (hop m t .after))
   pairing-stays t lt =
       subst (λ (c : List ℕ). AllStayOn (hop m t .machine .links) c (turnsAfter (hop m t .machine) t (hop m t .after)))
       (place-tells m g ok t lt steps h (rowAt m t) (rowAt m t .place) (ok .knows t lt .place) .chain)
-      (flagged-pairing-stays-on m g ok t lt (flagged-here t lt))
+      (flagged-pairing-stays-on m g ok t lt (flagged-here m g ok flags t lt))
 
   walks-stay-on : WalksStayOn m steps
   walks-stay-on = record {

@@ -273,12 +273,12 @@ module _ (m : Machine) (g : Ghost) (s : Story) (i : ℕ) (r : Row) (here : Here 
         on : Onward m g s m″ g (stepStory s i (s .order) read) i
         on = quiet-own m g s (here .inv) (here .orderly) i (here .room) m″ g inv′ grows refl refl refl (λ b p z. z) position read refl
 
-        goes-back : (z : Resume) → KnowsOfResume m s i a r z → KnowsOfResume m″ (stepStory s i (s .order) read) i a r z → KnowsOfAfter m″ g s (stepStory s i (s .order) read) i r (back (requestIn m a) z)
-        goes-back (resume.Enqueue n) now then = then
-        goes-back resume.Dequeue now then = then
-        goes-back (resume.Batch b) now then = then
-        goes-back resume.Dequeues now then = then
-        goes-back resume.Own now then = record {
+        goes-back : (z : Resume) → KnowsResume (sharedOf m) g i a r z → KnowsOfResume m s i a r z → KnowsOfResume m″ (stepStory s i (s .order) read) i a r z → KnowsOfAfter m″ g s (stepStory s i (s .order) read) i r (back (requestIn m a) z)
+        goes-back (resume.Enqueue n) own now then = then
+        goes-back resume.Dequeue own now then = then
+        goes-back (resume.Batch b) own now then = then
+        goes-back resume.Dequeues own now then = then
+        goes-back resume.Own own now then = record {
           announcement = a;
           call = now;
           position = knows .0 .old .count .0;
@@ -287,10 +287,12 @@ module _ (m : Machine) (g : Ghost) (s : Story) (i : ℕ) (r : Row) (here : Here 
               (quiet-leaves m g s (here .inv) (here .orderly) i (here .room) m″ g inv′ grows refl refl refl (λ b p z. z) position read)
               a (knows .0 .old .count .0) linked-at (of s i .called) (now .0) (here .orderly .linked a (knows .0 .old .count .0) (of s i .called) linked-at (now .0));
           fromIs = ap (λ (l : List Announcement). announcementAt l a .request .«old_head» .node) (sym same);
+          first = ap (λ (l : List Announcement). announcementAt l a .request .first) same ∙ own .first;
+          last = ap (λ (l : List Announcement). announcementAt l a .request .last) same ∙ own .last;
         }
 
         a7-as : OrderFine m g s i r m″ g (stepStory s i (s .order) read) (back (requestIn m a) k)
-        a7-as = quiet-step m g s (here .inv) (here .orderly) i (here .room) m″ g inv′ grows refl refl refl (λ b p z. z) position read r (back (requestIn m a) k) (goes-back k w (stays-known m″ g _ on))
+        a7-as = quiet-step m g s (here .inv) (here .orderly) i (here .room) m″ g inv′ grows refl refl refl (λ b p z. z) position read r (back (requestIn m a) k) (goes-back k resumes w (stays-known m″ g _ on))
 
       a7-order : (b : Bool) → sameHead (m .ends .head) (Announced a) ≡ b
           → Inv (inMemory (sharedOf m) (headCas (memoryOf m) (Plain to) b .memory)) g → Grows (sharedOf m) g (inMemory (sharedOf m) (headCas (memoryOf m) (Plain to) b .memory)) g

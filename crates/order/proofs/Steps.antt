@@ -56,7 +56,7 @@ pub record Ok (m : Machine) (g : Ghost) : Type 0 where
   pub threads : m .threads ≤ 8
 
 -- by its place
-abbrev request : Shared → Place → Request
+abbrev pub request : Shared → Place → Request
 request s p = getD (s .announcements) (announcementRun p) noAnnouncement .request
 
 module _ (s : Shared) (g : Ghost) (i : Inv s g) (t : ℕ) (r : Row) where
