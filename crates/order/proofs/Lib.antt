@@ -64,5 +64,6 @@ pub mod RunEffects
 pub mod OrderSteps
 pub mod OrderBeside
 pub mod OrderEnds
+pub mod OrderAfterSteps
 pub mod Promises
 pub mod OrderCases

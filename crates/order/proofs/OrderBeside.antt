@@ -23,7 +23,6 @@ use Rattle.call.specs.declared.answer.Future.{Future}
 use Rattle.machine.specs.declared.Machine.{Machine}
 use Rattle.order.specs.Order.{Called, Given, Remembered, Story, of}
 use Rattle.order.proofs.Ghost.{Ghost}
-use Rattle.order.proofs.Invariant.{Linked}
 use Rattle.order.proofs.RunReads.{linked-or-not}
 use Rattle.order.proofs.AbstractHead.{LinkedOrNot, positionIf, positionOf, headPosition}
 use Rattle.order.proofs.Orderly.{Announced, RunOn, Orderly, BatchCall, WaitsDequeues, KnowsOfDequeues, KnowsOfResume, KnowsOf, Onward}

@@ -1,16 +1,15 @@
 -- The end of a call gives what the run of the order gives: a single call its result, a batch's futures theirs. Pairing starts where the batch was run:
 -- at the old head with the nodes up to where it was linked, or at the head that was read with the nodes that were found.
 use Prim.Native.Nat.{ℕ, suc, _+_, _-_, _%_, _<_, _≤_}
-use mathlib.Core.Path.{_≡_, refl, sym, ap, ap₂, _∙_, subst}
+use mathlib.Core.Path.{_≡_, refl, sym, ap, _∙_, subst}
 use mathlib.Core.List.{List, [], _∷_, map}
 use mathlib.Core.Option.{Option, none, some}
 use native.Mathlib.Omega.{arith}
-use lib.ListN.{length, getD, take, drop}
+use lib.ListN.{length, take, drop}
 use Rattle.chain.specs.Positions.{at, At, In}
 use Rattle.chain.proofs.Positions.{the-only-one}
-use Rattle.tally.specs.Fifo.{Call, Result, ok, item, empty, results}
+use Rattle.tally.specs.Fifo.{Result, ok, item, empty, results}
 use Rattle.tally.specs.Excess.{enqueued, enqueues}
-use Rattle.tally.specs.Tally.{tallyOf}
 use Rattle.tally.specs.declared.Tally.{Tally}
 use Rattle.chain.specs.Chain.{Chain}
 use Rattle.memory.specs.declared.Cell.{Cell}
@@ -21,26 +20,24 @@ use Rattle.thread.specs.Place.{placeAfter}
 use Rattle.row.specs.declared.Row.{Row}
 use Rattle.row.specs.Row.{placed}
 use Rattle.call.specs.declared.answer.Item.{Item}
-use Rattle.call.specs.declared.answer.Answer.{Answer}
-use Rattle.call.specs.declared.answer.Outcome.{Outcome}
 use Rattle.call.specs.declared.pairing.Cursor.{Cursor}
 use Rattle.machine.specs.declared.Machine.{Machine}
 use Rattle.machine.specs.State.{rowAt, memoryOf, withMemory}
 use Rattle.machine.specs.Steps.{hop, tell, stepOf}
 use Rattle.order.specs.Promises.{requestIn}
 use Rattle.order.specs.Outcomes.{outcomeOf}
-use Rattle.order.specs.PairingReads.{Turn, turns, turnsFrom, batchCursor, dequeuesCursor}
-use Rattle.order.specs.Order.{Called, Effect, Given, Story, of, resultsIn, gives, Ran, ran, ResultIn, Stands}
+use Rattle.order.specs.PairingReads.{turns, turnsFrom, batchCursor, dequeuesCursor}
+use Rattle.order.specs.Order.{Called, Effect, Given, Story, of, resultsIn, ResultIn, Stands}
 use Rattle.order.proofs.Ghost.{Ghost, Batch, pendingOf, stepGhost}
 use Rattle.order.proofs.Shared.{sharedOf, next}
-use Rattle.order.proofs.Invariant.{Inv, Shape, Linked, NotLinked}
+use Rattle.order.proofs.Invariant.{Inv, Shape}
 use Rattle.order.proofs.Reached.{Holds}
 use Rattle.order.proofs.Flags.{flagged-here}
-use Rattle.order.proofs.PairingCounts.{Flagged, futures-kept}
+use Rattle.order.proofs.PairingCounts.{Flagged}
 use Rattle.order.proofs.PairingSteps.{row-left}
 use Rattle.order.proofs.PairingResults.{valueOf, outcomes, batch-results, dequeues-results}
 use Rattle.order.proofs.Orderly.{itemsOf, map-part, found, BatchCall, Orderly}
-use Rattle.order.proofs.Futured.{Futured, NoneGoing, SingleEnds, BatchEnds, EndsWith}
+use Rattle.order.proofs.Futured.{Futured, SingleEnds, BatchEnds, EndsWith}
 use Rattle.order.proofs.OrderFine.{SingleEnded, BatchRan, DequeuesRan, KnowsOfAfter}
 
 -- a single call

@@ -1,44 +1,34 @@
 -- A step at any place, and what it leaves of the order in the machine, the record and the story as the step's end leaves them.
-use Prim.Native.Nat.{ℕ, suc, _<_, _≤_}
-use mathlib.Core.Path.{_≡_, refl, sym, ap, _∙_, subst}
+use Prim.Native.Nat.{ℕ, _<_}
+use mathlib.Core.Path.{_≡_, refl, sym, ap, _∙_}
 use mathlib.Core.Bool.{false≢true}
-use mathlib.Core.List.{List, [], _∷_}
+use mathlib.Core.List.{[]}
 use mathlib.Core.Logic.{_≢_}
 use native.Mathlib.Omega.{arith}
-use lib.ListN.{length, getD}
-use Rattle.chain.specs.Positions.{At}
+use lib.ListN.{length}
 use Rattle.chain.proofs.Positions.{within}
-use Rattle.tally.specs.Fifo.{Call}
 use Rattle.tally.specs.Excess.{enqueued, dequeues}
-use Rattle.tally.specs.Tally.{tallyOf}
 use Rattle.tally.specs.declared.Tally.{Tally}
 use Rattle.tally.proofs.OneKind.{dequeues-alone}
-use Rattle.memory.specs.declared.Request.{Request}
 use Rattle.memory.specs.Memory.{Memory, perform}
 use Rattle.thread.specs.declared.Place.{Place}
 use Rattle.thread.specs.declared.Place.the-variants as place
 use Rattle.thread.specs.declared.Place.the-variants.{Idle, Enqueue, Dequeue, Dequeues, Running}
-use Rattle.thread.specs.declared.Resume.{Resume}
-use Rattle.thread.specs.declared.Resume.the-variants as resume
-use Rattle.thread.specs.declared.After.{After}
 use Rattle.thread.specs.declared.After.the-variants as afterwards
 use Rattle.thread.specs.declared.dequeues.DequeuesStep.{DequeuesStep}
 use Rattle.thread.specs.declared.dequeues.DequeuesStep.the-variants.{Q1, Q2, Q3}
 use Rattle.thread.specs.Place.{idle, access, after}
 use Rattle.row.specs.declared.Row.{Row}
-use Rattle.call.specs.declared.answer.Future.{Future}
 use Rattle.machine.specs.declared.Machine.{Machine}
 use Rattle.machine.specs.State.{rowAt, memoryOf, withMemory}
-use Rattle.order.specs.Order.{Called, Effect, Given, Remembered, Story, of, stepOrder, lastReadAt}
-use Rattle.order.proofs.Ghost.{Ghost, pendingOf, stepGhost}
+use Rattle.order.specs.Order.{Story, of, stepOrder, lastReadAt}
+use Rattle.order.proofs.Ghost.{Ghost, stepGhost}
 use Rattle.order.proofs.Shared.{sharedOf}
-use Rattle.order.proofs.Invariant.{Inv, Linked, NotLinked}
-use Rattle.order.proofs.Knows.{Tallied, KnowsAt}
+use Rattle.order.proofs.Knows.{KnowsAt}
 use Rattle.order.proofs.TailMoves.{quiet}
-use Rattle.order.proofs.Fine.{Fine}
 use Rattle.order.proofs.Steps.{Ok, request, place-step}
-use Rattle.order.proofs.Orderly.{RunOn, Orderly, WaitsDequeues, KnowsOfDequeues, KnowsOf, Onward}
-use Rattle.order.proofs.Futured.{Futured, BatchInCall}
+use Rattle.order.proofs.Orderly.{Orderly, WaitsDequeues, KnowsOfDequeues, KnowsOf}
+use Rattle.order.proofs.Futured.{Futured}
 use Rattle.order.proofs.OrderFine.{stepStory, OrderFine, Here, quiet-step}
 use Rattle.order.proofs.EnqueueEffects.{enqueue-order}
 use Rattle.order.proofs.DequeueEffects.{dequeue-order}

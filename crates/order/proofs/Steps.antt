@@ -1,7 +1,8 @@
 -- Every step of every thread keeps the invariant of the machine and its ghost.
 use Prim.Native.Nat.{ℕ, _<_, _≤_}
 use mathlib.Core.Path.{_≡_, refl, sym, ap, _∙_, subst}
-use mathlib.Core.List.{List, []}
+use mathlib.Core.List.{List, [], _∷_}
+use mathlib.Core.Option.{Option, none, some}
 use mathlib.Core.Logic.{_≢_}
 use native.Mathlib.Omega.{arith}
 use native.Mathlib.Decide.{ℕ-discrete}
@@ -9,12 +10,12 @@ use lib.ListN.{length, getD, set, length-set}
 use lib.Seq.{getD-set-same, getD-set-other}
 use Rattle.chain.specs.Positions.{at}
 use Rattle.chain.proofs.Positions.{none-is-not-some}
-use Rattle.tally.specs.Fifo.{Call}
 use Rattle.tally.specs.Excess.{enqueued}
 use Rattle.tally.specs.Tally.{tallyOf}
 use Rattle.tally.specs.declared.Tally.{Tally}
 use Rattle.refusal.proofs.Tests.{either-way}
 use Rattle.memory.specs.declared.Head.the-variants.{Plain}
+use Rattle.memory.specs.declared.Tail.{Tail}
 use Rattle.memory.specs.declared.Link.{Link}
 use Rattle.memory.specs.declared.Link.the-variants.{None, To}
 use Rattle.memory.specs.declared.Request.{Request}
@@ -35,7 +36,7 @@ use Rattle.row.specs.Row.{noRow}
 use Rattle.machine.specs.declared.Machine.{Machine}
 use Rattle.machine.specs.State.{rowAt}
 use Rattle.order.specs.Links.{ifTaken}
-use Rattle.order.proofs.Ghost.{Ghost, stepGhost}
+use Rattle.order.proofs.Ghost.{Ghost, batchOf, joins, installs, stepGhost}
 use Rattle.order.proofs.Shared.{Shared, sharedOf}
 use Rattle.order.proofs.Invariant.{Inv}
 use Rattle.order.proofs.Knows.{Pending, Tallied, Own, Alone, KnowsResume, KnowsAt, Knows}
@@ -71,30 +72,37 @@ module _ (s : Shared) (g : Ghost) (i : Inv s g) (t : ℕ) (r : Row) where
   place-step (Dequeues x) k = dequeues-step s g i t r x (k .0) (k .1)
   place-step (Running a x y) k = run-step s g i t r a y (k .0) (k .1) x (k .2)
 
--- a step leaves the pending calls alone
-either-pending : (v : Link) (x y : Ghost) (l : List (List (Call ℕ))) → x .pending ≡ l → y .pending ≡ l → ifTaken v x y .pending ≡ l
-either-pending None x y l p q = p
-either-pending (To n) x y l p q = q
+-- what neither a link step nor an installed announcement changes, no step changes: the pending calls, and the batches
+module _ {A : Type 0} (f : Ghost → A) (m : Memory) (g : Ghost) (joined : (l : Tail) (nodes : List ℕ) (who : Option ℕ) → f (joins g l nodes who) ≡ f g) (installed : (b : ℕ) → f (installs g b) ≡ f g) where
+  if-taken : (v : Link) (l : Tail) (nodes : List ℕ) (who : Option ℕ) → f (ifTaken v (joins g l nodes who) g) ≡ f g
+  if-taken None l nodes who = joined l nodes who
+  if-taken (To n) l nodes who = refl
+
+  no-step-changes : (p : Place) → f (stepGhost m g p) ≡ f g
+  no-step-changes Idle = refl
+  no-step-changes (Enqueue n E1) = refl
+  no-step-changes (Enqueue n (E2 l)) = if-taken (cellAt (m .links) (l .node) .link) l (n ∷ []) none
+  no-step-changes (Enqueue n (E3 l)) = refl
+  no-step-changes (Enqueue n (E4 l x)) = refl
+  no-step-changes (Enqueue n (E5 l x)) = refl
+  no-step-changes (Dequeue x) = refl
+  no-step-changes (Batch b B1) = refl
+  no-step-changes (Batch b (B2 h)) = either-way (λ (x : Ghost). f x ≡ f g) (sameHead (m .ends .head) (Plain h)) (λ e. installed b) (λ e. refl)
+  no-step-changes (Dequeues x) = refl
+  no-step-changes (Running a A1 k) = refl
+  no-step-changes (Running a (A2 l) k) = refl
+  no-step-changes (Running a (A3 l) k) = if-taken (cellAt (m .links) (l .node) .link) l (batchOf g a .nodes) (some a)
+  no-step-changes (Running a (A4 l) k) = refl
+  no-step-changes (Running a (A5 o) k) = refl
+  no-step-changes (Running a (A6 s x left) k) = refl
+  no-step-changes (Running a (A7 s x) k) = refl
+  no-step-changes (Running a (A8 l x) k) = refl
 
 pub pending-kept : (m : Memory) (g : Ghost) (p : Place) → stepGhost m g p .pending ≡ g .pending
-pending-kept m g Idle = refl
-pending-kept m g (Enqueue n E1) = refl
-pending-kept m g (Enqueue n (E2 l)) = either-pending (cellAt (m .links) (l .node) .link) _ _ (g .pending) refl refl
-pending-kept m g (Enqueue n (E3 l)) = refl
-pending-kept m g (Enqueue n (E4 l x)) = refl
-pending-kept m g (Enqueue n (E5 l x)) = refl
-pending-kept m g (Dequeue x) = refl
-pending-kept m g (Batch b B1) = refl
-pending-kept m g (Batch b (B2 f)) = either-way (λ (x : Ghost). x .pending ≡ g .pending) (sameHead (m .ends .head) (Plain f)) (λ e. refl) (λ e. refl)
-pending-kept m g (Dequeues x) = refl
-pending-kept m g (Running a A1 k) = refl
-pending-kept m g (Running a (A2 l) k) = refl
-pending-kept m g (Running a (A3 l) k) = either-pending (cellAt (m .links) (l .node) .link) _ _ (g .pending) refl refl
-pending-kept m g (Running a (A4 l) k) = refl
-pending-kept m g (Running a (A5 o) k) = refl
-pending-kept m g (Running a (A6 s x left) k) = refl
-pending-kept m g (Running a (A7 s x) k) = refl
-pending-kept m g (Running a (A8 l x) k) = refl
+pending-kept m g p = no-step-changes (λ x. x .pending) m g (λ l nodes who. refl) (λ b. refl) p
+
+pub batches-kept : (m : Memory) (g : Ghost) (p : Place) → stepGhost m g p .batches ≡ g .batches
+batches-kept m g p = no-step-changes (λ x. x .batches) m g (λ l nodes who. refl) (λ b. refl) p
 
 -- a machine that differs in what is shared and in one thread's row
 module _ (m : Machine) (g : Ghost) (ok : Ok m g) (i : ℕ) (lt : i < 8) where

@@ -3,7 +3,7 @@
 -- the queue holds, nor at the results.
 use Prim.Native.Nat.{ℕ, suc, _%_, _<_, _≤_}
 use mathlib.Core.Path.{_≡_}
-use mathlib.Core.Bool.{Bool, true, false, cond}
+use mathlib.Core.Bool.{cond}
 use mathlib.Core.List.{List, [], _∷_, _++_, map}
 use mathlib.Core.Option.{Option, none, some}
 use lib.Dec.{eqb, ltb}
@@ -35,7 +35,8 @@ use Rattle.machine.specs.Steps.{stepOf, isMore}
 use Rattle.machine.specs.Contents as machine
 use Rattle.machine.specs.Entries.{apply}
 use Rattle.order.specs.Links.{ifTaken}
-use Rattle.order.specs.Events.{Event, EnqueueStarts, DequeueStarts, EnqueueDeferred, DequeueDeferred, BatchSetOff, FutureAsked, StepTaken, keptBeside, events}
+use Rattle.order.specs.Reached.{after}
+use Rattle.order.specs.Events.{Event, EnqueueStarts, DequeueStarts, EnqueueDeferred, DequeueDeferred, BatchSetOff, FutureAsked, StepTaken, afterEvents, keptBeside, events}
 use Rattle.order.specs.Outcomes.{outcomeOf}
 
 -- A call that was started: a single one, which has no future, or a batch's calls in calling order, each with its future. Times are told by the
@@ -280,7 +281,14 @@ pub record Linear (m : Machine) (s : Story) : Type 0 where
   pub once : (j k : ℕ) (x y : Effect) → At (s .order) j x → At (s .order) k y → x .call .thread ≡ y .call .thread → x .call .began ≡ y .call .began → j ≡ k
   pub onceEach : (j k a b f : ℕ) (x y : Effect) → At (s .order) j x → At (s .order) k y → At (x .call .futures) a f → At (y .call .futures) b f → (j ≡ k) × (a ≡ b)
 
--- the results among the answers to a list of entries: those of the story, in their order (`results-are-told`)
+-- the results among the answers to a list of entries
 unfoldable pub resultsTold : Machine → List Entry → List (Result ℕ)
 resultsTold m [] = []
 resultsTold m (e ∷ es) = resultsIn (apply m e .answer) ++ resultsTold (apply m e .machine) es
+
+-- Of a machine m and any list of entries: its events leave the machine that the entries leave, the story has the results that the entries told, in
+-- their order, and the promises hold. proofs/Ordered.antt has the theorem, calls-take-effect-in-order.
+pub record InOrder (m : Machine) (es : List Entry) : Type 0 where
+  pub reached : after m es ≡ afterEvents m (events m es)
+  pub told : resultsTold m es ≡ map (λ g. g .result) (storyOf m es .given)
+  pub linear : Linear (after m es) (storyOf m es)
