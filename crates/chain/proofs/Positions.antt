@@ -110,9 +110,14 @@ module _ {A : Type 0} where
   the-only-one x y zero w = sym (some-injective w)
   the-only-one x y (suc k) w = absurd (none-is-not-some refl w)
 
--- the elements, each mapped
+-- the elements, each mapped; two maps that agree on them are the same
 pub at-map : {A B : Type 0} (f : A → B) (c : List A) (k : ℕ) {x : A} → At c k x → At (map f c) k (f x)
 unfolding at
 at-map f [] k p = absurd (none-is-not-some refl p)
 at-map f (y ∷ ys) zero p = ap (λ z. some (f z)) (some-injective p)
 at-map f (y ∷ ys) (suc k) p = at-map f ys k p
+
+pub map-same : {A B : Type 0} (f f′ : A → B) (c : List A) → ((k : ℕ) (x : A) → At c k x → f′ x ≡ f x) → map f′ c ≡ map f c
+unfolding at
+map-same f f′ [] same = refl
+map-same f f′ (x ∷ xs) same = λ i. same 0 x refl i ∷ map-same f f′ xs (λ k y p. same (suc k) y p) i

@@ -68,7 +68,7 @@ module _ (m : Machine) (g : Ghost) (s : Story) (holds : Holds m g) (h : Futured 
   abbrev calledNow : Called → Remembered
   calledNow c = record { calls = of s i .calls; futures = of s i .futures; called = c; lastRead = of s i .lastRead }
 
-  puts : (m′ : Machine) (s′ : Story) (row : Row) (r : Remembered) → m′ .rows ≡ set (m .rows) i row → s′ .threads ≡ set (s .threads) i r → Puts m s i m′ s′ row r
+  pub puts : (m′ : Machine) (s′ : Story) (row : Row) (r : Remembered) → m′ .rows ≡ set (m .rows) i row → s′ .threads ≡ set (s .threads) i r → Puts m s i m′ s′ row r
   puts m′ s′ row r put thread = record { small = free .small; rows = holds .ok .rows; threads = h .threads; putRow = put; putThread = thread }
 
   -- a call is begun: what is pending and the futures stay; an announcement that it has is going on

@@ -2,7 +2,7 @@
 use Prim.Native.Nat.{ℕ}
 use mathlib.Core.Path.{_≡_, refl, sym, ap, _∙_, subst}
 use mathlib.Core.Bool.{Bool, true, false, true≢false}
-use mathlib.Core.Logic.{_≢_}
+use mathlib.Core.Logic.{_⊎_, inl, inr, _≢_}
 use lib.Dec.{eqb, ltb}
 use Rattle.refusal.proofs.Tests.{either-way}
 use Rattle.memory.specs.declared.Tail.{Tail}
@@ -120,3 +120,12 @@ stays (Running a (A8 t x) r) busy y k pending = refl
 pub stays-in-call : (m : Machine) (i : ℕ) (p : Place) → hop m i .after ≡ afterwards.On p → rowAt m i .place ≢ Idle → p ≢ Idle
 unfolding hop
 stays-in-call m i p e busy is = true≢false (sym (ap idle is) ∙ subst StaysInCall e (stays (rowAt m i .place) busy _ _ _))
+
+-- in a call, or not
+pub idle-or-busy : (p : Place) → (p ≡ Idle) ⊎ (p ≢ Idle)
+idle-or-busy Idle = inl refl
+idle-or-busy (Enqueue n x) = inr (λ e. true≢false (sym (ap idle e)))
+idle-or-busy (Dequeue x) = inr (λ e. true≢false (sym (ap idle e)))
+idle-or-busy (Batch b x) = inr (λ e. true≢false (sym (ap idle e)))
+idle-or-busy (Dequeues x) = inr (λ e. true≢false (sym (ap idle e)))
+idle-or-busy (Running a x k) = inr (λ e. true≢false (sym (ap idle e)))

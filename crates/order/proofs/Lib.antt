@@ -53,6 +53,7 @@ pub mod Outcomes
 pub mod FuturesDeferred
 pub mod FuturesEntries
 pub mod InCall
+pub mod PendingItems
 pub mod FuturesPaid
 pub mod FuturesSteps
 pub mod OrderFine
@@ -61,9 +62,13 @@ pub mod EnqueueEffects
 pub mod DequeueEffects
 pub mod DequeuesEffects
 pub mod RunEffects
+pub mod OrderQuiet
+pub mod OrderSetOff
+pub mod OrderEntries
 pub mod OrderSteps
 pub mod OrderBeside
 pub mod OrderEnds
 pub mod OrderAfterSteps
+pub mod Ordered
 pub mod Promises
 pub mod OrderCases

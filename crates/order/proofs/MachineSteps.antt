@@ -53,7 +53,7 @@ module _ (m : Machine) (g : Ghost) (ok : Ok m g) (i : ℕ) (lt : i < 8) where
   fine = place-step (sharedOf m) g (ok .inv) i (rowAt m i) (rowAt m i .place) (ok .knows i lt .place)
 
   -- the row as the step leaves it
-  row-left : (a : After) → hop m i .after ≡ a → m₁ .rows ≡ set (m .rows) i (placed (rowAt m i) (placeAfter a))
+  pub row-left : (a : After) → hop m i .after ≡ a → m₁ .rows ≡ set (m .rows) i (placed (rowAt m i) (placeAfter a))
   unfolding hop
   row-left a e = ap (λ (x : After). set (m .rows) i (placed (rowAt m i) (placeAfter x))) e
 
@@ -68,7 +68,7 @@ module _ (m : Machine) (g : Ghost) (ok : Ok m g) (i : ℕ) (lt : i < 8) where
   unfolding hop
   grows₁ = fine .grows
 
-  spares₁ : (u : ℕ) → u ≢ i → Spares (sharedOf m) g (sharedOf m₁) g₁ u
+  pub spares₁ : (u : ℕ) → u ≢ i → Spares (sharedOf m) g (sharedOf m₁) g₁ u
   unfolding hop
   spares₁ = fine .spares
 

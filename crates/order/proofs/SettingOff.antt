@@ -11,7 +11,6 @@ use lib.ListN.{length}
 use borrow.Author.Tests.{eqb-true, eqb-false}
 use Rattle.chain.specs.Positions.{At}
 use Rattle.chain.proofs.Positions.{element}
-use Rattle.chain.proofs.Following.{meets-the-rest}
 use Rattle.memory.specs.declared.Request.{Request}
 use Rattle.thread.specs.declared.Place.{Place}
 use Rattle.thread.specs.declared.Place.the-variants as place
@@ -29,11 +28,12 @@ use Rattle.order.proofs.Ghost.{Ghost, Batch, announces, pendingNodes, p
 use Rattle.order.proofs.Shared.{Shared, sharedOf}
 use Rattle.order.proofs.Invariant.{Asks}
 use Rattle.order.proofs.Knows.{Private, Pending, Tallied, NotAnnounced, Own}
+use Rattle.order.proofs.Grows.{Grows}
 use Rattle.order.proofs.TailMoves.{quiet, spared}
 use Rattle.order.proofs.HandingOutAnnouncements.{asking, announcementHandedOut, new-request, new-announcement-inv, new-announcement-grows, new-announcement-spares, new-batch, new-not-announced}
 use Rattle.order.proofs.HandedOut.{announcement-number, announcement-handed-out}
 use Rattle.order.proofs.Steps.{Ok, put-back, put-back-as}
-use Rattle.order.proofs.Deferred.{pending-here}
+use Rattle.order.proofs.Deferred.{nodes-are-pending, pending-here}
 
 -- what holds after both ways of setting off
 pub set-off-either : (P : Machine → Ghost → Type 0) (m : Machine) (g : Ghost) (i f : ℕ)
@@ -53,6 +53,9 @@ set-off-either P m g i f dequeues announced = by (eqb (rowAt m i .tally .enqueue
 module _ (m : Machine) (g : Ghost) (ok : Ok m g) (i : ℕ) (lt : i < 8) (idle : rowAt m i .place ≡ Idle) (f : ℕ) where
   h : Pending (sharedOf m) g i (rowAt m i)
   h = pending-here m g ok i lt idle
+
+  nodes-are : pendingNodes (m .links) (rowAt m i) ≡ h .nodes
+  nodes-are = nodes-are-pending (sharedOf m) g i (rowAt m i) h
 
   tallied : (p : Place) → Tallied g i (calling (rowAt m i) p f)
   tallied p = let w = ok .knows i lt .tallied in record { tally = w .tally; count = w .count; few = w .few }
@@ -74,23 +77,19 @@ module _ (m : Machine) (g : Ghost) (ok : Ok m g) (i : ℕ) (lt : i < 8) (idle : 
         let x = element (h .nodes) k (omega (arith, h .many)) in
         x .1 ∙ ap some (h .lastIs k (x .0) (omega (arith, h .many)) (x .1))
 
-    -- the nodes along the links are those that the thread has pending
-    nodes-are-pending : pendingNodes (m .links) (rowAt m i) ≡ h .nodes
-    nodes-are-pending = meets-the-rest (h .private .chain) (rowAt m i .tally .enqueues) 0 (some (rowAt m i .first)) first (omega (arith, h .many))
-
     abbrev batch : Batch
     batch = pendingBatch m g i
 
     asks : Asks (asking (request (rowAt m i))) batch
     asks = record {
-      firstIs = subst (λ (l : List ℕ). At l 0 (rowAt m i .first)) (sym nodes-are-pending) first;
-      lastIs = λ k e. subst (λ (l : List ℕ). At l k (rowAt m i .last)) (sym nodes-are-pending) (last k e);
-      many = ap length nodes-are-pending ∙ h .many;
+      firstIs = subst (λ (l : List ℕ). At l 0 (rowAt m i .first)) (sym nodes-are) first;
+      lastIs = λ k e. subst (λ (l : List ℕ). At l k (rowAt m i .last)) (sym nodes-are) (last k e);
+      many = ap length nodes-are ∙ h .many;
       tally = ok .knows i lt .tallied .tally;
     }
 
     private : Private (sharedOf m) g i (batch .nodes)
-    private = subst (Private (sharedOf m) g i) (sym nodes-are-pending) (h .private)
+    private = subst (Private (sharedOf m) g i) (sym nodes-are) (h .private)
 
     abbrev k : Request
     k = request (rowAt m i)
@@ -120,6 +119,11 @@ module _ (m : Machine) (g : Ghost) (ok : Ok m g) (i : ℕ) (lt : i < 8) (idle : 
 
     begins : NotAnnounced s′ g′ i (nextAnnouncement (m .used)) × Own s′ g′ i (nextAnnouncement (m .used)) row
     begins = subst (λ (b : ℕ). NotAnnounced s′ g′ i b × Own s′ g′ i b row) (sym number) (new-not-announced (sharedOf m) g (ok .inv) i k batch asks private left, own)
+
+    -- what others rely on
+    pub announced-grows : Grows (sharedOf m) g (sharedOf (withRow (handOutAnnouncement m k) i row)) g′
+    announced-grows =
+        subst (λ (x : Shared). Grows (sharedOf m) g x g′) (sym (announcement-handed-out m k left)) (new-announcement-grows (sharedOf m) g (ok .inv) i k batch asks private left)
 
     announced-off : Ok (withRow (handOutAnnouncement m k) i row) g′
     announced-off =
