@@ -1,3 +1,4 @@
+pub mod OrderCases
 pub mod Ghost
 pub mod Shared
 pub mod Invariant
@@ -71,4 +72,3 @@ pub mod OrderEnds
 pub mod OrderAfterSteps
 pub mod Ordered
 pub mod Promises
-pub mod OrderCases
