@@ -4,7 +4,7 @@ use mathlib.Core.Path.{_≡_, refl, sym, ap, ap₂, _∙_, subst}
 use mathlib.Core.Bool.{Bool, true, false, cond}
 use mathlib.Core.List.{List, [], _∷_, append-nil}
 use mathlib.Core.Option.{none}
-use mathlib.Core.Logic.{inl, inr}
+use mathlib.Core.Logic.{inl}
 use native.Mathlib.Omega.{arith}
 use lib.ListN.{drop, drop-of-length-le, length-map}
 use Rattle.chain.specs.Positions.{at, At, In}
@@ -42,9 +42,8 @@ use Rattle.order.proofs.AbstractHead.{headPosition, position-of-plain}
 use Rattle.order.proofs.PairingResults.{valueOf}
 use Rattle.order.proofs.Orderly.{itemsOf, Orderly, WaitsSingle, KnowsOfDequeue, queue-is}
 use Rattle.order.proofs.OrderStays.{waits-single-stay, seen-stays}
-use Rattle.order.proofs.OrderFine.{stepStory, SingleEnded, KnowsOfAfter, OrderFine, of-other, Here, only-reads}
-use Rattle.order.proofs.OrderEffects.{not-of-another, now-orderly, now-onward, now-takes-effect, last-ran}
-use Rattle.order.proofs.EnqueueEffects.{own-call}
+use Rattle.order.proofs.OrderFine.{stepStory, SingleEnded, KnowsOfAfter, OrderFine, Here, only-reads}
+use Rattle.order.proofs.OrderEffects.{AtTheEnd, last-ran, takes-effect-now}
 
 -- a head at or behind the abstract head whose link is none: the queue is empty
 pub empty-behind : (m : Machine) (g : Ghost) (s : Story) → Inv (sharedOf m) g → Orderly m g s → (k n : ℕ) → At (g .chain) k n → next (m .links) n ≡ none → k ≤ headPosition m g → leaves (s .order) [] ≡ []
@@ -70,6 +69,15 @@ module _ (m : Machine) (g : Ghost) (s : Story) (i : ℕ) (r : Row) (here : Here 
     unfolding enqueued
     nothing-enqueued = sym (ap enqueued (waits .1 .calls))
 
+    at-the-end : AtTheEnd m g s m′ g (of s i .called) []
+    at-the-end = record {
+      effects = record { inv = here .inv; orderly = here .orderly; grows = grows; items = items; batches = refl; fresh = waits .0 .notIn };
+      chain = sym (append-nil (g .chain));
+      enqueues = nothing-enqueued;
+      head = head;
+      began = omega (arith, waits .0 .began);
+    }
+
     ended : SingleEnded s i (nowLast s i) res
     ended = record {
       thread = waits .0 .thread;
@@ -78,23 +86,11 @@ module _ (m : Machine) (g : Ghost) (s : Story) (i : ℕ) (r : Row) (here : Here 
       notAnnounced = waits .0 .notAnnounced;
       place = s .clock;
       early = omega arith;
-      there = subst (λ (rs : List (Result ℕ)). In (ran (nowLast s i) []) (record { effect = record { call = c; place = s .clock }; results = rs })) gives
-          (last-ran m g s (here .inv) (here .orderly) i m′ g grows items refl read c (waits .0 .notIn) [] (sym (append-nil (g .chain))) nothing-enqueued head (omega (arith, waits .0 .began)));
+      there = subst (λ (rs : List (Result ℕ)). In (ran (nowLast s i) []) (record { effect = record { call = c; place = s .clock }; results = rs })) gives (last-ran at-the-end);
     }
 
     takes : KnowsOfAfter m′ g s (stepStory s i (nowLast s i) read) i r a → OrderFine m g s i r m′ g (stepStory s i (nowLast s i) read) a
-    takes k = record {
-      orderly = now-orderly m g s (here .inv) (here .orderly) i m′ g grows items refl read c (waits .0 .notIn) [] (sym (append-nil (g .chain))) nothing-enqueued head (omega (arith, waits .0 .began))
-          (λ b p d w q. inl w) (λ b d n q t e. waits .0 .notAnnounced b d q (sym t ∙ waits .0 .thread) (sym e));
-      onward = λ u ne. now-onward m g s (here .inv) (here .orderly) i m′ g grows items refl read c (waits .0 .notIn) [] (sym (append-nil (g .chain))) nothing-enqueued head (omega (arith, waits .0 .began))
-          u (of-other s i (nowLast s i) read u ne) (not-of-another m g s (here .inv) (here .orderly) i m′ g grows items refl read c (waits .0 .notIn) (waits .0 .thread) u ne);
-      effect = inr (
-        _,
-        now-takes-effect m g s (here .inv) (here .orderly) i m′ g grows items refl read c (waits .0 .notIn) [] (sym (append-nil (g .chain))) nothing-enqueued head (omega (arith, waits .0 .began))
-            (own-call m g s i here (waits .0 .thread)) (inl (waits .1 .futures)),
-      );
-      knows = k;
-    }
+    takes = takes-effect-now m g s i r here (waits .0) (inl (waits .1 .futures)) at-the-end read (λ b p w. w) a
 
   -- d2 that finds none
   module _ (f : Front) (at : FrontAt g f) (waits : WaitsSingle s i dequeue) (seen : f .count .0 ≤ headPosition m g) where

@@ -48,12 +48,11 @@ use Rattle.order.proofs.EnqueueSteps.{found-behind}
 use Rattle.order.proofs.AbstractHead.{headPosition, position-of-plain}
 use Rattle.order.proofs.PairingResults.{valueOf}
 use Rattle.order.proofs.Ran.{enqueuedIn, leaves-is, enqueued-then, enqueued-put-in, taken-put-in, put-in-ran, put-in-is}
-use Rattle.order.proofs.Orderly.{itemsOf, WaitsDequeues, Window, KnowsQ3, KnowsOfDequeues}
+use Rattle.order.proofs.Orderly.{itemsOf, Orderly, WaitsDequeues, Window, KnowsQ3, KnowsOfDequeues}
 use Rattle.order.proofs.OrderKept.{part-stays}
 use Rattle.order.proofs.OrderStays.{dequeues-stay}
 use Rattle.order.proofs.OrderFine.{stepStory, KnowsOfAfter, OrderFine, of-own, of-other, quiet-step, Here, only-reads}
-use Rattle.order.proofs.OrderEffects.{not-of-another, effect-orderly, effect-onward, takes-effect, now-orderly, now-onward, now-takes-effect, last-ran}
-use Rattle.order.proofs.EnqueueEffects.{own-call}
+use Rattle.order.proofs.OrderEffects.{Effects, Between, AtTheEnd, effect-orderly, effect-onward, takes-effect, not-of-another, last-ran, own-call, own-futures, own-apart, takes-effect-now}
 use Rattle.order.proofs.DequeueEffects.{empty-behind}
 
 module _ (m : Machine) (g : Ghost) (s : Story) (i : ℕ) (r : Row) (here : Here m g s i) (counted : r .tally .dequeues ≡ length (of s i .calls)) where
@@ -172,31 +171,27 @@ module _ (m : Machine) (g : Ghost) (s : Story) (i : ℕ) (r : Row) (here : Here 
       alone : enqueued (of s i .called .calls) ≡ []
       alone = ap enqueued (waits .1 .calls) ∙ waits .2
 
-      found-nothing : w .taken ≡ 0 → OrderFine m g s i r m₀ g s′ (afterwards.PairDequeues (w .front .node) 0)
-      found-nothing z = record {
-        orderly = now-orderly m g s (here .inv) (here .orderly) i m₀ g quiet refl refl (s .clock) c (waits .0 .notIn) [] (sym (append-nil (g .chain))) (sym alone) stays (omega (arith, waits .0 .began))
-            (λ b p d l q. inl l) (λ b d n q t e. waits .0 .notAnnounced b d q (sym t ∙ waits .0 .thread) (sym e));
-        onward = λ u ne. now-onward m g s (here .inv) (here .orderly) i m₀ g quiet refl refl (s .clock) c (waits .0 .notIn) [] (sym (append-nil (g .chain))) (sym alone) stays (omega (arith, waits .0 .began))
-            u (of-other s i (s′ .order) (s .clock) u ne) (not-of-another m g s (here .inv) (here .orderly) i m₀ g quiet refl refl (s .clock) c (waits .0 .notIn) (waits .0 .thread) u ne);
-        effect = inr (
-          _,
-          now-takes-effect m g s (here .inv) (here .orderly) i m₀ g quiet refl refl (s .clock) c (waits .0 .notIn) [] (sym (append-nil (g .chain))) (sym alone) stays (omega (arith, waits .0 .began))
-              (own-call m g s i here (waits .0 .thread)) (inr (waits .1 .futures ∙ ap (λ (t : ℕ). of s t .futures) (sym (waits .0 .thread)))),
-        );
-        knows = record {
-          call = waits;
-          position = w .front .count .0;
-          fromIs = walks .0;
-          enough = omega (arith, within (g .chain) _ (walks .0));
-          place = s .clock;
-          early = omega arith;
-          there = subst (λ (q : List ℕ). In (ran (s′ .order) []) (record { effect = record { call = c; place = s .clock }; results = results (c .calls) q })) (nothing-there z)
-              (last-ran m g s (here .inv) (here .orderly) i m₀ g quiet refl refl (s .clock) c (waits .0 .notIn) [] (sym (append-nil (g .chain))) (sym alone) stays (omega (arith, waits .0 .began)));
-        };
+      at-the-end : w .taken ≡ 0 → AtTheEnd m g s m₀ g (of s i .called) []
+      at-the-end z = record {
+        effects = record { inv = here .inv; orderly = here .orderly; grows = quiet; items = refl; batches = refl; fresh = waits .0 .notIn };
+        chain = sym (append-nil (g .chain));
+        enqueues = sym alone;
+        head = omega (arith, empty-takes z (of s i .called .calls) alone);
+        began = omega (arith, waits .0 .began);
       }
-        where
-          stays : headPosition m₀ g ≡ headPosition m g + successful (results (of s i .called .calls) (leaves (s .order) []))
-          stays = omega (arith, empty-takes z (of s i .called .calls) alone)
+
+      found-nothing : w .taken ≡ 0 → OrderFine m g s i r m₀ g s′ (afterwards.PairDequeues (w .front .node) 0)
+      found-nothing z =
+          takes-effect-now m g s i r here (waits .0) (inr (waits .1 .futures)) (at-the-end z) (s .clock) (λ b p l. l) (afterwards.PairDequeues (w .front .node) 0)
+          (record {
+            call = waits;
+            position = w .front .count .0;
+            fromIs = walks .0;
+            enough = omega (arith, within (g .chain) _ (walks .0));
+            place = s .clock;
+            early = omega arith;
+            there = subst (λ (q : List ℕ). In (ran (s′ .order) []) (record { effect = record { call = c; place = s .clock }; results = results (c .calls) q })) (nothing-there z) (last-ran (at-the-end z));
+          })
 
       q2-none : (b : Bool) → eqb (w .taken) 0 ≡ b
           → OrderFine m g s i r m₀ g (stepStory s i (cond b (readLast s i (s .clock)) (s .order)) (s .clock)) (cond b (afterwards.PairDequeues (w .front .node) 0) (dequeuesAt (Q3 w)))
@@ -272,22 +267,27 @@ module _ (m : Machine) (g : Ghost) (s : Story) (i : ℕ) (r : Row) (here : Here 
       unfolding x
       put-there = ap (putIn x) (seen-then .order) ∙ put-in-is (seen-then .old) (seen-then .new) x (λ j y p. omega (arith, seen-then .before j y p)) (seen-then .since)
 
+      effects : Effects m g s m′ g (of s i .called)
+      effects = record { inv = here .inv; orderly = here .orderly; grows = grows; items = refl; batches = refl; fresh = waits .0 .notIn }
+
+      between : Between s (of s i .called) (of s i .lastRead) (seen-then .old) (seen-then .new)
+      between = record { order = seen-then .order; only = seen-then .only; began = k .read; past = omega (arith, k .recent); before = seen-then .before; since = seen-then .since }
+
+      q3-orderly : Orderly m′ g (stepStory s i order′ read)
+      unfolding x
+      q3-orderly =
+          effect-orderly effects i read between [] (sym (append-nil (itemsOf m g)))
+          (enqueued-put-in (seen-then .old) (seen-then .new) x (seen-then .only) no-enqueue ∙ ap enqueuedIn (sym (seen-then .order)) ∙ here .orderly .chain)
+          (taken-put-in (seen-then .old) (seen-then .new) x (seen-then .only) ∙ omega (arith, seen-then .taken, takes, moved))
+          (λ a p d l q. inl l) (own-apart m g s i r here (waits .0) (inr (waits .1 .futures)) g)
+
       q3-taken : OrderFine m g s i r m′ g (stepStory s i order′ read) (afterwards.PairDequeues (w .front .node) (w .taken))
       unfolding x
       q3-taken = record {
-        orderly = effect-orderly m g s (here .inv) (here .orderly) i m′ g grows refl refl read c (waits .0 .notIn) read (seen-then .old) (seen-then .new) (seen-then .order) (seen-then .only) (k .read) (omega (arith, k .recent)) (seen-then .before) (seen-then .since)
-            [] (sym (append-nil (itemsOf m g)))
-            (enqueued-put-in (seen-then .old) (seen-then .new) x (seen-then .only) no-enqueue ∙ ap enqueuedIn (sym (seen-then .order)) ∙ here .orderly .chain)
-            (taken-put-in (seen-then .old) (seen-then .new) x (seen-then .only) ∙ omega (arith, seen-then .taken, takes, moved))
-            (λ a p d l q. inl l) (λ a d n q t b. waits .0 .notAnnounced a d q (sym t ∙ waits .0 .thread) (sym b));
-        onward = λ u ne. effect-onward m g s (here .inv) (here .orderly) i m′ g grows refl refl read c (waits .0 .notIn) read (seen-then .old) (seen-then .new) (seen-then .order) (seen-then .only) (k .read) (omega (arith, k .recent)) (seen-then .before) (seen-then .since)
-            (omega (arith, was, moved)) (λ q some. absurd (omega (arith, was, moved, k .found)))
-            u (of-other s i order′ read u ne) (not-of-another m g s (here .inv) (here .orderly) i m′ g grows refl refl read c (waits .0 .notIn) (waits .0 .thread) u ne);
-        effect = inr (
-          _,
-          takes-effect m g s (here .inv) (here .orderly) i m′ g grows refl refl read c (waits .0 .notIn) read (seen-then .old) (seen-then .new) (seen-then .order) (seen-then .only) (k .read) (omega (arith, k .recent)) (seen-then .before) (seen-then .since)
-              (own-call m g s i here (waits .0 .thread)) (inr (waits .1 .futures ∙ ap (λ (t : ℕ). of s t .futures) (sym (waits .0 .thread)))),
-        );
+        orderly = q3-orderly;
+        onward = λ u ne. effect-onward effects i read between (omega (arith, was, moved)) (λ q some. absurd (omega (arith, was, moved, k .found)))
+            u (of-other s i order′ read u ne) (not-of-another s c i (waits .0 .thread) u ne);
+        effect = inr (_, takes-effect effects i read between (own-call m g s i r here (waits .0) (inr (waits .1 .futures))) (own-futures m g s i r here (waits .0) (inr (waits .1 .futures))));
         knows = record {
           call = waits;
           position = h;

@@ -3,7 +3,7 @@ use Prim.Native.Nat.{ℕ, suc, _+_}
 use mathlib.Core.Path.{_≡_, refl, sym, ap, _∙_, subst}
 use mathlib.Core.List.{List, [], _∷_}
 use mathlib.Core.Option.{none, some}
-use mathlib.Core.Logic.{inl, inr, ⊎-elim, _≢_}
+use mathlib.Core.Logic.{inl, ⊎-elim}
 use native.Mathlib.Omega.{arith}
 use Rattle.chain.specs.Positions.{At, In}
 use Rattle.chain.proofs.Positions.{none-is-not-some, within, at-left, there-or-at-the-end}
@@ -19,12 +19,11 @@ use Rattle.memory.specs.Memory.{Memory, cellAt, withLink, linkCas, perform}
 use Rattle.memory.specs.Found.{linkIn}
 use Rattle.thread.specs.declared.enqueue.EnqueueStep.{EnqueueStep}
 use Rattle.thread.specs.declared.enqueue.EnqueueStep.the-variants.{E1, E2, E3, E4, E5}
-use Rattle.thread.specs.declared.Place.the-variants.{Idle}
 use Rattle.thread.specs.declared.After.the-variants as afterwards
 use Rattle.thread.specs.Enqueue.{enqueueAccess, enqueueAfter, afterE2, afterE4, enqueueAt}
 use Rattle.row.specs.declared.Row.{Row}
 use Rattle.machine.specs.declared.Machine.{Machine}
-use Rattle.machine.specs.State.{rowAt, memoryOf, withMemory}
+use Rattle.machine.specs.State.{memoryOf, withMemory}
 use Rattle.order.specs.Links.{ifTaken}
 use Rattle.order.specs.Order.{Called, Story, Remembered, of, nowLast, enqueueOrder, ran, leaves}
 use Rattle.order.proofs.Ghost.{Ghost, joins, enqueueGhost}
@@ -36,9 +35,8 @@ use Rattle.order.proofs.HeadPositions.{position-stays}
 use Rattle.order.proofs.PairingResults.{valueOf}
 use Rattle.order.proofs.Orderly.{WaitsSingle, Enqueued, KnowsOfEnqueue, Onward}
 use Rattle.order.proofs.OrderStays.{waits-single-stay}
-use Rattle.order.proofs.Futured.{InCall}
-use Rattle.order.proofs.OrderFine.{stepStory, SingleEnded, OrderFine, of-own, of-other, Here, moves-the-tail, only-reads}
-use Rattle.order.proofs.OrderEffects.{not-of-another, now-orderly, now-onward, now-takes-effect, last-ran}
+use Rattle.order.proofs.OrderFine.{stepStory, SingleEnded, OrderFine, of-own, Here, moves-the-tail, only-reads}
+use Rattle.order.proofs.OrderEffects.{AtTheEnd, last-ran, takes-effect-now}
 
 -- a single node linked behind the tail links no batch
 module _ (g : Ghost) (ends : InvEnds g) (l : Tail) (nodes : List ℕ) where
@@ -50,14 +48,6 @@ module _ (g : Ghost) (ends : InvEnds g) (l : Tail) (nodes : List ℕ) where
 
   pub still-not-linked : (a : ℕ) → NotLinked g a → NotLinked (joins g l nodes none) a
   still-not-linked a n j w = ⊎-elim {C = ⊥} (n j) (λ e. none-is-not-some {x = a} refl (sym (e .1))) (there-or-at-the-end (g .by) none j w)
-
--- the thread's own call, as one that it is in
-pub own-call : (m : Machine) (g : Ghost) (s : Story) (i : ℕ) → Here m g s i → of s i .called .thread ≡ i → InCall m s (of s i .called)
-own-call m g s i here e = record {
-  thread = omega (arith, here .small, e);
-  is = ap (λ (t : ℕ). of s t .called) (sym e);
-  busy = subst (λ (t : ℕ). rowAt m t .place ≢ Idle) (sym e) (here .busy);
-}
 
 module _ (m : Machine) (g : Ghost) (s : Story) (i : ℕ) (r : Row) (here : Here m g s i) (n : ℕ) where
   abbrev c : Called
@@ -100,29 +90,32 @@ module _ (m : Machine) (g : Ghost) (s : Story) (i : ℕ) (r : Row) (here : Here 
     own : of s′ i ≡ of s i
     own = of-own s i (nowLast s i) read (here .room)
 
-    e2-taken : OrderFine m g s i r m′ g′ s′ (enqueueAt n (E3 l))
-    e2-taken = record {
-      orderly = now-orderly m g s (here .inv) (here .orderly) i m′ g′ grows refl refl read c (waits .0 .notIn) (n ∷ []) refl own-item head-stays (omega (arith, waits .0 .began))
-          (λ a p d w q. inl (no-batch g (here .inv .ends) l (n ∷ []) a p w)) (λ a d k q t b. waits .0 .notAnnounced a d q (sym t ∙ waits .0 .thread) (sym b));
-      onward = λ u ne. now-onward m g s (here .inv) (here .orderly) i m′ g′ grows refl refl read c (waits .0 .notIn) (n ∷ []) refl own-item head-stays (omega (arith, waits .0 .began))
-          u (of-other s i (nowLast s i) read u ne) (not-of-another m g s (here .inv) (here .orderly) i m′ g′ grows refl refl read c (waits .0 .notIn) (waits .0 .thread) u ne);
-      effect = inr (
-        _,
-        now-takes-effect m g s (here .inv) (here .orderly) i m′ g′ grows refl refl read c (waits .0 .notIn) (n ∷ []) refl own-item head-stays (omega (arith, waits .0 .began))
-            (own-call m g s i here (waits .0 .thread)) (inl (waits .1 .futures)),
-      );
-      knows = record {
-        thread = ap (λ (x : Remembered). x .called .thread) own ∙ waits .0 .thread;
-        futures = ap (λ (x : Remembered). x .called .futures) own ∙ waits .1 .futures;
-        asked = ap (λ (x : Remembered). x .called .asked) own ∙ waits .1 .asked;
-        notAnnounced = λ a d q t b. waits .0 .notAnnounced a d q t (b ∙ ap (λ (x : Remembered). x .called .began) own);
-        place = s .clock;
-        early = omega arith;
-        there = subst (λ (x : Remembered). In (ran (nowLast s i) []) (record { effect = record { call = x .called; place = s .clock }; results = ok ∷ [] })) (sym own)
-            (subst (λ (rs : List (Result ℕ)). In (ran (nowLast s i) []) (record { effect = record { call = c; place = s .clock }; results = rs })) (gives-ok (leaves (s .order) []))
-            (last-ran m g s (here .inv) (here .orderly) i m′ g′ grows refl refl read c (waits .0 .notIn) (n ∷ []) refl own-item head-stays (omega (arith, waits .0 .began))));
-      };
+    at-the-end : AtTheEnd m g s m′ g′ (of s i .called) (n ∷ [])
+    at-the-end = record {
+      effects = record { inv = here .inv; orderly = here .orderly; grows = grows; items = refl; batches = refl; fresh = waits .0 .notIn };
+      chain = refl;
+      enqueues = own-item;
+      head = head-stays;
+      began = omega (arith, waits .0 .began);
     }
+
+    there : In (ran (nowLast s i) []) (record { effect = record { call = of s′ i .called; place = s .clock }; results = ok ∷ [] })
+    there =
+        subst (λ (x : Remembered). In (ran (nowLast s i) []) (record { effect = record { call = x .called; place = s .clock }; results = ok ∷ [] })) (sym own)
+        (subst (λ (rs : List (Result ℕ)). In (ran (nowLast s i) []) (record { effect = record { call = c; place = s .clock }; results = rs })) (gives-ok (leaves (s .order) [])) (last-ran at-the-end))
+
+    e2-taken : OrderFine m g s i r m′ g′ s′ (enqueueAt n (E3 l))
+    e2-taken =
+        takes-effect-now m g s i r here (waits .0) (inl (waits .1 .futures)) at-the-end read (no-batch g (here .inv .ends) l (n ∷ [])) (enqueueAt n (E3 l))
+        (record {
+          thread = ap (λ (x : Remembered). x .called .thread) own ∙ waits .0 .thread;
+          futures = ap (λ (x : Remembered). x .called .futures) own ∙ waits .1 .futures;
+          asked = ap (λ (x : Remembered). x .called .asked) own ∙ waits .1 .asked;
+          notAnnounced = λ a d q t b. waits .0 .notAnnounced a d q t (b ∙ ap (λ (x : Remembered). x .called .began) own);
+          place = s .clock;
+          early = omega arith;
+          there = there;
+        })
 
   -- the other steps
   waiting-on : (x : Memory) (y : EnqueueStep) → WaitsSingle s i (enqueue v) → Onward m g s (withMemory m x) g (stepStory s i (s .order) read) i

@@ -58,7 +58,7 @@ use Rattle.order.proofs.OrderStays.{announces-stays, resume-stays}
 use Rattle.order.proofs.OrderKept.{part-stays, run-stays}
 use Rattle.order.proofs.Futured.{BatchInCall}
 use Rattle.order.proofs.OrderFine.{stepStory, KnowsOfAfter, OrderFine, of-own, of-other, quiet-step, quiet-own, quiet-leaves, Here, quietly, only-reads, moves-the-tail}
-use Rattle.order.proofs.OrderEffects.{not-of-any, now-orderly, now-onward, now-takes-effect, last-ran, grown}
+use Rattle.order.proofs.OrderEffects.{AtTheEnd, not-of-any, now-orderly, now-onward, now-takes-effect, last-ran, grown}
 
 module _ (m : Machine) (g : Ghost) (s : Story) (i : ℕ) (r : Row) (here : Here m g s i) where
   abbrev read : ℕ
@@ -184,14 +184,17 @@ module _ (m : Machine) (g : Ghost) (s : Story) (i : ℕ) (r : Row) (here : Here 
       moved : headPosition m′ g′ ≡ headPosition m g + successful (results (getD (s .announced) a noCalled .calls) (leaves (s .order) []))
       moved = omega (arith, position-once-linked m′ g′ inv′ a (l .count .0) in-the-head linked-now, was, takes)
 
-      early : getD (s .announced) a noCalled .began ≤ s .clock
-      early = omega (arith, here .orderly .announced .early a (getD (s .announced) a noCalled) is-the-call)
-
-      fresh : (j : ℕ) (x : Effect) → At (s .order) j x → x .call .thread ≡ getD (s .announced) a noCalled .thread → x .call .began ≡ getD (s .announced) a noCalled .began → ⊥
-      fresh = here .orderly .unlinked a (getD (s .announced) a noCalled) unlinked is-the-call
+      at-the-end : AtTheEnd m g s m′ g′ (getD (s .announced) a noCalled) (batchOf g a .nodes)
+      at-the-end = record {
+        effects = record { inv = here .inv; orderly = here .orderly; grows = grows; items = refl; batches = refl; fresh = here .orderly .unlinked a c unlinked is-the-call };
+        chain = refl;
+        enqueues = nodes-are;
+        head = moved;
+        began = omega (arith, here .orderly .announced .early a c is-the-call);
+      }
 
       more-items : itemsOf m′ g′ ≡ itemsOf m g ++ enqueued (getD (s .announced) a noCalled .calls)
-      more-items = grown m g s (here .inv) (here .orderly) i m′ g′ grows refl refl read c fresh (batchOf g a .nodes) refl nodes-are moved early
+      more-items = grown at-the-end
 
       items-long : length (itemsOf m g) ≡ suc (l .count .0)
       items-long = length-map (g .chain) (valueOf (m .items)) ∙ last-is
@@ -209,7 +212,7 @@ module _ (m : Machine) (g : Ghost) (s : Story) (i : ℕ) (r : Row) (here : Here 
         place = s .clock;
         early = omega arith;
         there = subst (λ (q : List ℕ). In (ran order′ []) (record { effect = record { call = c; place = s .clock }; results = results (c .calls) q })) (sym found-is)
-            (last-ran m g s (here .inv) (here .orderly) i m′ g′ grows refl refl read c fresh (batchOf g a .nodes) refl nodes-are moved early);
+            (last-ran at-the-end);
       }
 
       -- no other batch is linked by it
@@ -227,20 +230,14 @@ module _ (m : Machine) (g : Ghost) (s : Story) (i : ℕ) (r : Row) (here : Here 
       own = of-own s i order′ (of s i .lastRead) (here .room)
 
       onward : (u : ℕ) → of s′ u ≡ of s u → Onward m g s m′ g′ s′ u
-      onward u same =
-          now-onward m g s (here .inv) (here .orderly) i m′ g′ grows refl refl read c fresh (batchOf g a .nodes) refl nodes-are moved early u same
-          (not-of-any m g s (here .inv) (here .orderly) i m′ g′ grows refl refl read c fresh a is-the-call u)
+      onward u same = now-onward at-the-end i read u same (not-of-any s c a is-the-call u)
 
       a3-taken : OrderFine m g s i r m′ g′ s′ (runningAt a k (A4 l))
       a3-taken = record {
-        orderly = now-orderly m g s (here .inv) (here .orderly) i m′ g′ grows refl refl read c fresh (batchOf g a .nodes) refl nodes-are moved early old-or-this
+        orderly = now-orderly at-the-end i read old-or-this
             (λ b d n q t e. n (suc (linked-now .step)) (subst (λ (x : ℕ). At (g′ .by) (suc (linked-now .step)) (some x)) (here .orderly .announced .apart a b c d is-the-call q t e) (linked-now .is)));
         onward = λ u ne. onward u (of-other s i order′ read u ne);
-        effect = inr (
-          _,
-          now-takes-effect m g s (here .inv) (here .orderly) i m′ g′ grows refl refl read c fresh (batchOf g a .nodes) refl nodes-are moved early
-              (going a c unlinked is-the-call .inCall) (inr (going a c unlinked is-the-call .futures)),
-        );
+        effect = inr (_, now-takes-effect at-the-end i read (going a c unlinked is-the-call .inCall) (inr (going a c unlinked is-the-call .futures)));
         knows = stays-known m′ g′ s′ (onward i own);
       }
 
