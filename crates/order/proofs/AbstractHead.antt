@@ -3,22 +3,18 @@
 -- whether the batch is linked by its old tail, or, while that is unset, by the link of the tail: the tail has not passed the batch then, and
 -- a batch is linked no further on than at the tail, so if it is linked, it is linked behind the tail. No walk to the new head runs off the end,
 -- and the contents are the items of the chain behind it, up to its last node.
-use Prim.Native.Nat.{ℕ, zero, suc, _+_, _-_, _%_, _<_, _≤_}
-use mathlib.Core.Path.{_≡_, refl, sym, ap, _∙_, subst}
+use Prim.Native.Nat.{ℕ, zero, suc, _+_, _-_, _%_, _<_}
+use mathlib.Core.Path.{_≡_, refl, sym, ap, _∙_}
 use mathlib.Core.Bool.{Bool, true, false, cond, false≢true}
 use mathlib.Core.List.{List, map}
 use mathlib.Core.Option.{some}
 use mathlib.Core.Logic.{_⊎_, inl, inr}
 use native.Mathlib.Omega.{arith}
-use lib.Dec.{eqb, ltb}
 use lib.ListN.{length, getD, drop, length-drop}
-use borrow.Author.Tests.{eqb-true, ltb-false, eq-eqb}
+use borrow.Author.Tests.{eqb-true, eq-eqb}
 use Rattle.chain.specs.Positions.{at, At, In}
 use Rattle.chain.proofs.Positions.{none-is-not-some, some-injective, within, element, at-is-getD}
 use Rattle.chain.proofs.Following.{last-has-none}
-use Rattle.tally.specs.declared.Tally.{Tally}
-use Rattle.tally.specs.Tally.{successfulOn}
-use Rattle.tally.proofs.Counts.{successful-le-present}
 use Rattle.memory.specs.declared.Tail.{Tail}
 use Rattle.memory.specs.declared.Front.{Front}
 use Rattle.memory.specs.declared.Head.{Head}
@@ -32,7 +28,7 @@ use Rattle.memory.specs.declared.Announcement.{Announcement}
 use Rattle.memory.specs.Memory.{cellAt, announcementAt}
 use Rattle.thread.specs.declared.running.RunStep.{RunStep}
 use Rattle.thread.specs.declared.running.RunStep.the-variants.{A1, A2, A3, A4, A5, A6, A7, A8}
-use Rattle.thread.specs.Running.{sizeAt, walkTo}
+use Rattle.thread.specs.Running.{walkTo}
 use Rattle.row.specs.Row.{noRow}
 use Rattle.machine.specs.declared.Machine.{Machine}
 use Rattle.machine.specs.State.{noItem}
@@ -42,15 +38,11 @@ use Rattle.order.specs.Promises.{requestIn, headOrOld, EveryLinkLeadsOn}
 use Rattle.order.proofs.Shared.{sharedOf, no-link}
 use Rattle.order.proofs.Invariant.{TailAt, FrontAt, Linked, NotLinked, InvEnds, Inv}
 use Rattle.order.proofs.Ends.{chain-fits}
-use Rattle.order.proofs.Knows.{risesBy, goal}
+use Rattle.order.proofs.Knows.{goalFrom, goal}
 use Rattle.order.proofs.TailMoves.{linked-le}
 use Rattle.order.proofs.EnqueueSteps.{found-behind}
-use Rattle.order.proofs.RunReads.{linked-or-not, found-first}
+use Rattle.order.proofs.RunReads.{linked-or-not, found-first, ArrivesAt, goal-in-chain, arrives-at-the-goal}
 use Rattle.order.proofs.ContentsWalk.{link-leads-on, walks-along, no-link-is-missing, meets-those-behind, at-drop}
-
--- the position of the head that a7 will set, for a batch linked behind position p; `goal` of an old tail is that of the old tail's count
-abbrev pub goalFrom : Request → ℕ → ℕ
-goalFrom k p = k .«old_head» .count .0 + successfulOn (k .tally) (p - k .«old_head» .count .0)
 
 abbrev pub LinkedOrNot : Ghost → ℕ → Type 0
 LinkedOrNot g a = ((j : ℕ) × At (g .by) j (some a)) ⊎ NotLinked g a
@@ -70,17 +62,6 @@ headPosition m g = positionOf (m .announcements) g (m .ends .head)
 -- the machine's test whether the batch of announcement a is linked, while its old tail is unset
 abbrev pub tailLeadsToBatch : Machine → ℕ → Bool
 tailLeadsToBatch m a = leadsTo (cellAt (m .links) (m .ends .tail .node) .link) (requestIn m a .first)
-
--- the way to a7, of a run whose new head is to stand at position q
-abbrev ArrivesAt : Ghost → ℕ → RunStep → Type 0
-ArrivesAt g q A1 = ⊥
-ArrivesAt g q (A2 t) = ⊥
-ArrivesAt g q (A3 t) = ⊥
-ArrivesAt g q (A4 t) = ⊥
-ArrivesAt g q (A5 o) = ⊥
-ArrivesAt g q (A6 s x left) = (j : ℕ) × At (g .chain) j x × (j + left ≡ q)
-ArrivesAt g q (A7 s x) = At (g .chain) q x
-ArrivesAt g q (A8 t x) = ⊥
 
 -- a batch that is linked is linked behind some position
 pub linked-somewhere : (g : Ghost) → InvEnds g → (a j : ℕ) → At (g .by) j (some a) → (p : ℕ) × Linked g a p
@@ -120,61 +101,15 @@ module _ (m : Machine) (g : Ghost) (i : Inv (sharedOf m) g) where
       by-head (Announced a) e = i .head .oldHeadAt a (i .head .thereInstalled a e)
 
   module _ (a : ℕ) (there : In (g .installed) a) where
-    -- the new head's position is one of the chain: s ≤ z + enqueues
-    pub goal-in-chain : (p : ℕ) → Linked g a p → goalFrom (requestIn m a) p < length (g .chain)
-    goal-in-chain p l =
-        let f = i .linked .shape a (l .step) p (l .is) (l .from) in
-        let b = i .head .hasBatch a there in
-        let asks = i .batches .asks a (b .0) (b .1) in
-        let z = p - requestIn m a .«old_head» .count .0 in
-        let few : successfulOn (requestIn m a .tally) z ≤ z + requestIn m a .tally .enqueues =
-        subst (λ (y : Tally). successfulOn y z ≤ z + y .enqueues) (sym (asks .tally)) (successful-le-present (b .0 .calls) z) in
-        let c = within (g .chain) _ (f .lastAt) in
-        omega (arith, f .oldHeadBefore)
-
-    -- a7 has its goal at hand, or a walk begins that ends there: no walk, s from the old head, or s - z from the old tail
-    arrives-at-the-goal : (o : Tail) → Linked g a (o .count .0) → TailAt g o → ArrivesAt g (goal (requestIn m a) o) (walkTo (requestIn m a) o)
-    arrives-at-the-goal o l is = by-rise (eqb rise 0) refl
-      where
-        k : Request
-        k = requestIn m a
-
-        z : ℕ
-        z = sizeAt k o
-
-        rise : ℕ
-        rise = risesBy k o
-
-        before : k .«old_head» .count .0 ≤ o .count .0
-        before = i .linked .shape a (l .step) (o .count .0) (l .is) (l .from) .oldHeadBefore
-
-        from-old-tail : (b : Bool) → eqb rise z ≡ b → z ≤ rise → ArrivesAt g (goal k o) (cond b (A7 rise (o .node)) (A6 rise (o .node) (rise - z)))
-        from-old-tail true q h =
-            let here : goal k o ≡ o .count .0 = omega (arith, eqb-true rise z q, before) in
-            ap (at (g .chain)) here ∙ is
-        from-old-tail false q h = (o .count .0, is, omega (arith, before))
-
-        from-old-head : (b : Bool) → ltb rise z ≡ b
-            → ArrivesAt g (goal k o) (cond b (A6 rise (k .«old_head» .node) rise) (cond (eqb rise z) (A7 rise (o .node)) (A6 rise (o .node) (rise - z))))
-        from-old-head true q = (k .«old_head» .count .0, i .head .oldHeadAt a there, refl)
-        from-old-head false q = from-old-tail (eqb rise z) refl (ltb-false rise z q)
-
-        by-rise : (b : Bool) → eqb rise 0 ≡ b
-            → ArrivesAt g (goal k o) (cond b (A7 rise (k .«old_head» .node)) (cond (ltb rise z) (A6 rise (k .«old_head» .node) rise) (cond (eqb rise z) (A7 rise (o .node)) (A6 rise (o .node) (rise - z)))))
-        by-rise true q =
-            let here : goal k o ≡ k .«old_head» .count .0 = omega (arith, eqb-true rise 0 q) in
-            ap (at (g .chain)) here ∙ i .head .oldHeadAt a there
-        by-rise false q = from-old-head (ltb rise z) refl
-
     -- so the head to be is the node at the goal, and no link is missing on the way
     module _ (o : Tail) (l : Linked g a (o .count .0)) (is : TailAt g o) where
       pub head-to-be-at : At (g .chain) (goal (requestIn m a) o) (headToBe (m .links) (requestIn m a) o)
-      head-to-be-at = by-way (walkTo (requestIn m a) o) (arrives-at-the-goal o l is)
+      head-to-be-at = by-way (walkTo (requestIn m a) o) (arrives-at-the-goal (sharedOf m) g i 0 noRow a there o l is)
         where
-          by-way : (w : RunStep) → ArrivesAt g (goal (requestIn m a) o) w → At (g .chain) (goal (requestIn m a) o) (reached (m .links) w)
+          by-way : (w : RunStep) → ArrivesAt g (requestIn m a) o w → At (g .chain) (goal (requestIn m a) o) (reached (m .links) w)
           by-way (A6 s x left) h =
-              ap (at (g .chain)) (sym (h .2)) ∙ walks-along (m .links) (i .chain .chain) left (h .0) x (h .1) (omega (arith, h .2, goal-in-chain (o .count .0) l))
-          by-way (A7 s x) h = h
+              ap (at (g .chain)) (sym (h .3)) ∙ walks-along (m .links) (i .chain .chain) left (h .0) x (h .1) (omega (arith, h .3, goal-in-chain (sharedOf m) g i 0 noRow a there (o .count .0) l))
+          by-way (A7 s x) h = h .0
           by-way A1 h = absurd h
           by-way (A2 t) h = absurd h
           by-way (A3 t) h = absurd h
@@ -183,11 +118,11 @@ module _ (m : Machine) (g : Ghost) (i : Inv (sharedOf m) g) where
           by-way (A8 t x) h = absurd h
 
       pub walk-stays-in-the-chain : EveryLinkLeadsOn (m .links) (walkTo (requestIn m a) o)
-      walk-stays-in-the-chain = by-way (walkTo (requestIn m a) o) (arrives-at-the-goal o l is)
+      walk-stays-in-the-chain = by-way (walkTo (requestIn m a) o) (arrives-at-the-goal (sharedOf m) g i 0 noRow a there o l is)
         where
-          by-way : (w : RunStep) → ArrivesAt g (goal (requestIn m a) o) w → EveryLinkLeadsOn (m .links) w
+          by-way : (w : RunStep) → ArrivesAt g (requestIn m a) o w → EveryLinkLeadsOn (m .links) w
           by-way (A6 s x left) h =
-              no-link-is-missing (m .links) (i .chain .chain) left (h .0) x (h .1) (omega (arith, h .2, goal-in-chain (o .count .0) l))
+              no-link-is-missing (m .links) (i .chain .chain) left (h .0) x (h .1) (omega (arith, h .3, goal-in-chain (sharedOf m) g i 0 noRow a there (o .count .0) l))
           by-way (A7 s x) h = tt
           by-way A1 h = tt
           by-way (A2 t) h = tt

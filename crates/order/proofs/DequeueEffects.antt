@@ -28,8 +28,9 @@ use Rattle.thread.specs.Dequeue.{dequeueAccess, dequeueAfter, afterD1, afterD2,
 use Rattle.row.specs.declared.Row.{Row}
 use Rattle.machine.specs.declared.Machine.{Machine}
 use Rattle.machine.specs.State.{memoryOf, withMemory}
-use Rattle.order.specs.Links.{led, next, ifTaken}
-use Rattle.order.specs.Order.{Called, Story, of, nowLast, dequeueOrder, ran, leaves}
+use Rattle.order.specs.Links.{led, next, ifNone}
+use Rattle.order.specs.Order.{Called, Story, of, nowLast, dequeueOrder}
+use Rattle.order.specs.PlainQueue.{ran, leaves}
 use Rattle.order.proofs.Ghost.{Ghost}
 use Rattle.order.proofs.Shared.{sharedOf, inMemory}
 use Rattle.order.proofs.Invariant.{Inv, FrontAt}
@@ -102,7 +103,7 @@ module _ (m : Machine) (g : Ghost) (s : Story) (i : ℕ) (r : Row) (here : Here 
         takes waits (withMemory m (memoryOf m)) quiet refl (omega (arith, ap successful gives)) afterwards.Empty empty gives
         (ended waits (withMemory m (memoryOf m)) quiet refl (omega (arith, ap successful gives)) afterwards.Empty empty gives)
 
-    d2-order : (v : Link) → cellAt (m .links) (f .node) .link ≡ v → OrderFine m g s i r (withMemory m (memoryOf m)) g (stepStory s i (ifTaken v (nowLast s i) (s .order)) read) (afterD2 f v)
+    d2-order : (v : Link) → cellAt (m .links) (f .node) .link ≡ v → OrderFine m g s i r (withMemory m (memoryOf m)) g (stepStory s i (ifNone v (nowLast s i) (s .order)) read) (afterD2 f v)
     d2-order None e = d2-none e
     d2-order (To x) e = only-reads m g s i r here _ (λ on. (waits-single-stay m g s (here .inv) _ g _ i on _ waits, seen-stays m g s (here .inv) _ g _ i on _ seen))
 

@@ -34,8 +34,9 @@ use Rattle.thread.specs.Dequeues.{dequeuesAccess, dequeuesAfter, dequeuesAt, af
 use Rattle.row.specs.declared.Row.{Row}
 use Rattle.machine.specs.declared.Machine.{Machine}
 use Rattle.machine.specs.State.{memoryOf, withMemory}
-use Rattle.order.specs.Links.{led, next, ifTaken}
-use Rattle.order.specs.Order.{Called, Effect, Story, Remembered, of, putIn, readLast, readAt, dequeuesOrder, ran, leaves}
+use Rattle.order.specs.Links.{led, next, ifNone}
+use Rattle.order.specs.Order.{Called, Effect, Story, Remembered, of, putIn, putInAt, readAt, dequeuesOrder}
+use Rattle.order.specs.PlainQueue.{ran, leaves}
 use Rattle.order.proofs.Ghost.{Ghost}
 use Rattle.order.proofs.Shared.{sharedOf, inMemory}
 use Rattle.order.proofs.Invariant.{Inv}
@@ -159,7 +160,7 @@ module _ (m : Machine) (g : Ghost) (s : Story) (i : ℕ) (r : Row) (here : Here 
           successful-dequeues cs (leaves (s .order) []) 0 alone (inr (ap length (nothing-there z))) (omega arith) (omega arith)
 
       -- it stands behind all others
-      last-place : readLast s i (s .clock) ≡ s .order ++ (record { call = of s i .called; place = s .clock } ∷ [])
+      last-place : putInAt s i (s .clock) ≡ s .order ++ (record { call = of s i .called; place = s .clock } ∷ [])
       unfolding at
       last-place =
           ap (putIn _) (sym (append-nil (s .order)))
@@ -194,13 +195,13 @@ module _ (m : Machine) (g : Ghost) (s : Story) (i : ℕ) (r : Row) (here : Here 
           })
 
       q2-none : (b : Bool) → eqb (w .taken) 0 ≡ b
-          → OrderFine m g s i r m₀ g (stepStory s i (cond b (readLast s i (s .clock)) (s .order)) (s .clock)) (cond b (afterwards.PairDequeues (w .front .node) 0) (dequeuesAt (Q3 w)))
+          → OrderFine m g s i r m₀ g (stepStory s i (cond b (putInAt s i (s .clock)) (s .order)) (s .clock)) (cond b (afterwards.PairDequeues (w .front .node) 0) (dequeuesAt (Q3 w)))
       q2-none true e =
           subst (λ (l : List Effect). OrderFine m g s i r m₀ g (stepStory s i l (s .clock)) (afterwards.PairDequeues (w .front .node) 0)) (sym last-place) (found-nothing (eqb-true (w .taken) 0 e))
       q2-none false e = q2-stops (eqb-false (w .taken) 0 e)
 
     q2-order : (v : Link) → cellAt (m .links) (w .at) .link ≡ v
-        → OrderFine m g s i r m₀ g (stepStory s i (ifTaken v (cond (eqb (w .taken) 0) (readLast s i (s .clock)) (s .order)) (s .order)) (s .clock)) (afterQ2 w v (r .tally .dequeues))
+        → OrderFine m g s i r m₀ g (stepStory s i (ifNone v (cond (eqb (w .taken) 0) (putInAt s i (s .clock)) (s .order)) (s .order)) (s .clock)) (afterQ2 w v (r .tally .dequeues))
     q2-order None e = q2-none e (eqb (w .taken) 0) refl
     q2-order (To x) e =
         q2-found x e _ (omega (arith, position-small (sharedOf m) g (here .inv) _ _ (walks .1))) (ltb (oneFurther w x .taken) (r .tally .dequeues)) refl
@@ -263,7 +264,7 @@ module _ (m : Machine) (g : Ghost) (s : Story) (i : ℕ) (r : Row) (here : Here 
       abbrev order′ : List Effect
       order′ = seen-then .old ++ (x ∷ seen-then .new)
 
-      put-there : readLast s i (of s i .lastRead) ≡ order′
+      put-there : putInAt s i (of s i .lastRead) ≡ order′
       unfolding x
       put-there = ap (putIn x) (seen-then .order) ∙ put-in-is (seen-then .old) (seen-then .new) x (λ j y p. omega (arith, seen-then .before j y p)) (seen-then .since)
 
@@ -305,7 +306,7 @@ module _ (m : Machine) (g : Ghost) (s : Story) (i : ℕ) (r : Row) (here : Here 
         → Inv (inMemory (sharedOf m) (headCas (memoryOf m) (Plain (pastFront (w .front) (w .at) (w .taken))) b .memory)) g
         → Grows (sharedOf m) g (inMemory (sharedOf m) (headCas (memoryOf m) (Plain (pastFront (w .front) (w .at) (w .taken))) b .memory)) g
         → OrderFine m g s i r (withMemory m (headCas (memoryOf m) (Plain (pastFront (w .front) (w .at) (w .taken))) b .memory)) g
-        (stepStory s i (cond b (readLast s i (of s i .lastRead)) (s .order)) (of s i .lastRead)) (afterQ3 w (takenIn (headCas (memoryOf m) (Plain (pastFront (w .front) (w .at) (w .taken))) b .found)))
+        (stepStory s i (cond b (putInAt s i (of s i .lastRead)) (s .order)) (of s i .lastRead)) (afterQ3 w (takenIn (headCas (memoryOf m) (Plain (pastFront (w .front) (w .at) (w .taken))) b .found)))
     q3-order true e inv′ grows =
         subst (λ (l : List Effect). OrderFine m g s i r m′ g (stepStory s i l read) (afterwards.PairDequeues (w .front .node) (w .taken))) (sym (put-there e inv′ grows)) (q3-taken e inv′ grows)
     q3-order false e inv′ grows = only-reads m g s i r here _ (λ on. dequeues-stay m g s (here .inv) _ g _ i on r waits)

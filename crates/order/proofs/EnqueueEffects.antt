@@ -24,8 +24,9 @@ use Rattle.thread.specs.Enqueue.{enqueueAccess, enqueueAfter, afterE2, afterE4,
 use Rattle.row.specs.declared.Row.{Row}
 use Rattle.machine.specs.declared.Machine.{Machine}
 use Rattle.machine.specs.State.{memoryOf, withMemory}
-use Rattle.order.specs.Links.{ifTaken}
-use Rattle.order.specs.Order.{Called, Story, Remembered, of, nowLast, enqueueOrder, ran, leaves}
+use Rattle.order.specs.Links.{ifNone}
+use Rattle.order.specs.Order.{Called, Story, Remembered, of, nowLast, enqueueOrder}
+use Rattle.order.specs.PlainQueue.{ran, leaves}
 use Rattle.order.proofs.Ghost.{Ghost, joins, enqueueGhost}
 use Rattle.order.proofs.Shared.{sharedOf, inMemory}
 use Rattle.order.proofs.Invariant.{Inv, InvEnds, Linked, NotLinked}
@@ -123,10 +124,10 @@ module _ (m : Machine) (g : Ghost) (s : Story) (i : ℕ) (r : Row) (here : Here 
   waiting-on x y w on = waits-single-stay m g s (here .inv) (withMemory m x) g (stepStory s i (s .order) read) i on _ w
 
   e2-order : (l : Tail) (x : Link) → WaitsSingle s i (enqueue v)
-      → Inv (inMemory (sharedOf m) (linkCas (memoryOf m) (l .node) n x .memory)) (ifTaken x (joins g l (n ∷ []) none) g)
-      → Grows (sharedOf m) g (inMemory (sharedOf m) (linkCas (memoryOf m) (l .node) n x .memory)) (ifTaken x (joins g l (n ∷ []) none) g)
-      → OrderFine m g s i r (withMemory m (linkCas (memoryOf m) (l .node) n x .memory)) (ifTaken x (joins g l (n ∷ []) none) g)
-      (stepStory s i (ifTaken x (nowLast s i) (s .order)) read) (afterE2 n l (linkIn (linkCas (memoryOf m) (l .node) n x .found)))
+      → Inv (inMemory (sharedOf m) (linkCas (memoryOf m) (l .node) n x .memory)) (ifNone x (joins g l (n ∷ []) none) g)
+      → Grows (sharedOf m) g (inMemory (sharedOf m) (linkCas (memoryOf m) (l .node) n x .memory)) (ifNone x (joins g l (n ∷ []) none) g)
+      → OrderFine m g s i r (withMemory m (linkCas (memoryOf m) (l .node) n x .memory)) (ifNone x (joins g l (n ∷ []) none) g)
+      (stepStory s i (ifNone x (nowLast s i) (s .order)) read) (afterE2 n l (linkIn (linkCas (memoryOf m) (l .node) n x .found)))
   e2-order l None w inv′ grows = e2-taken l w inv′ grows
   e2-order l (To y) w inv′ grows = only-reads m g s i r here _ (waiting-on (memoryOf m) (E4 l y) w)
 

@@ -25,7 +25,7 @@ use Rattle.thread.specs.declared.enqueue.EnqueueStep.{EnqueueStep}
 use Rattle.thread.specs.declared.enqueue.EnqueueStep.the-variants.{E1, E2, E3, E4, E5}
 use Rattle.thread.specs.Enqueue.{enqueueAccess, enqueueAfter, afterE2, afterE4, enqueueAt}
 use Rattle.row.specs.declared.Row.{Row}
-use Rattle.order.specs.Links.{ifTaken}
+use Rattle.order.specs.Links.{ifNone}
 use Rattle.order.proofs.Ghost.{Ghost, joins, enqueueGhost}
 use Rattle.order.proofs.Shared.{Shared, next, led, linked, withLinks}
 use Rattle.order.proofs.Invariant.{Inv}
@@ -67,7 +67,7 @@ module _ (s : Shared) (g : Ghost) (i : Inv s g) (t : ℕ) (r : Row) where
   }
 
   at-e2 : (n : ℕ) (l : Tail) → Single s g t n → TailRead s g l → Alone g t → (v : Link) → cellAt (s .links) (l .node) .link ≡ v
-      → Fine s g t r (linkCas (memoryIn s) (l .node) n v) (ifTaken v (joins g l (n ∷ []) none) g) (afterE2 n l (linkIn (linkCas (memoryIn s) (l .node) n v .found)))
+      → Fine s g t r (linkCas (memoryIn s) (l .node) n v) (ifNone v (joins g l (n ∷ []) none) g) (afterE2 n l (linkIn (linkCas (memoryIn s) (l .node) n v .found)))
   at-e2 n l m read alone None e = record {
     inv = join-inv s g i (n ∷ []) n none l read free j;
     grows = grows;

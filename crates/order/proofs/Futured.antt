@@ -4,7 +4,7 @@
 use Prim.Native.Nat.{ℕ, _<_, _≤_}
 use mathlib.Core.Path.{_≡_}
 use mathlib.Core.List.{List, [], map}
-use mathlib.Core.Option.{some}
+use mathlib.Core.Option.{none, some}
 use mathlib.Core.Logic.{_⊎_, _≢_}
 use lib.ListN.{length, getD}
 use Rattle.chain.specs.Positions.{At, In}
@@ -18,7 +18,8 @@ use Rattle.machine.specs.declared.Machine.{Machine}
 use Rattle.machine.specs.State.{rowAt}
 use Rattle.machine.specs.Steps.{hop, stepOf}
 use Rattle.order.specs.PairingReads.{turnsFrom, batchCursor, dequeuesCursor}
-use Rattle.order.specs.Order.{Called, Effect, Given, Story, of, gives, Ran, ran, Stands}
+use Rattle.order.specs.Order.{Called, Effect, Given, Story, of, gives}
+use Rattle.order.specs.PlainQueue.{Ran, ran, Stands}
 use Rattle.order.specs.Outcomes.{outcomeOf}
 use Rattle.order.proofs.Events.{futureIn, OwnFuture}
 use Rattle.order.proofs.Ghost.{Ghost, pendingOf}
@@ -51,7 +52,7 @@ pub record BatchInCall (m : Machine) (s : Story) (c : Called) : Type 0 where
 
 -- a result for future f, told at a time
 abbrev pub futureGiven : ℕ → ℕ → Result ℕ → ℕ → Given
-futureGiven t f r now = record { thread = t; future = some f; began = 0; result = r; time = now }
+futureGiven t f r now = record { thread = t; future = some f; began = none; result = r; time = now }
 
 pub record Futured (m : Machine) (g : Ghost) (s : Story) : Type 0 where
   pub threads : length (s .threads) ≡ 8
@@ -85,7 +86,7 @@ NoneGoing g′ s i = (a : ℕ) (c : Called) → NotLinked g′ a → At (s .anno
 pub record SingleEnds (m : Machine) (g′ : Ghost) (s : Story) (i : ℕ) (order′ : List Effect) : Type 0 where
   pub none : NoneGoing g′ s i
   pub futures : of s i .called .futures ≡ []
-  pub stands : (j : ℕ) (x : Given) → At (gives i (of s i .called .asked) (of s i .called .began) (s .clock) (stepOf m i .answer)) j x → Stands order′ x
+  pub stands : (j : ℕ) (x : Given) → At (gives i (of s i .called .asked) (some (of s i .called .began)) (s .clock) (stepOf m i .answer)) j x → Stands order′ x
 
 pub record BatchEnds (m : Machine) (g′ : Ghost) (s : Story) (i : ℕ) (order′ : List Effect) (c : Cursor) : Type 0 where
   pub none : NoneGoing g′ s i

@@ -5,7 +5,7 @@ use Prim.Native.Nat.{ℕ, _%_, _<_, _≤_}
 use mathlib.Core.Path.{_≡_, refl, sym, ap, _∙_, subst}
 use mathlib.Core.Bool.{true, false}
 use mathlib.Core.List.{List, [], _∷_, _++_}
-use mathlib.Core.Option.{Option, some}
+use mathlib.Core.Option.{Option, none, some}
 use mathlib.Core.Logic.{_⊎_, inl, inr, ⊎-elim, _≢_}
 use native.Mathlib.Omega.{arith}
 use lib.Dec.{eqb}
@@ -34,7 +34,8 @@ use Rattle.machine.specs.declared.Machine.{Machine}
 use Rattle.machine.specs.State.{rowAt, freshMachine}
 use Rattle.machine.specs.Entries.{linkedBehind, deferEnqueue, deferDequeue}
 use Rattle.order.specs.Events.{Event, EnqueueStarts, DequeueStarts, EnqueueDeferred, DequeueDeferred, BatchSetOff, FutureAsked, StepTaken, does}
-use Rattle.order.specs.Order.{Called, Given, Remembered, Story, of, gives, defers, pendingBatch, single, happens, Stands, freshStory, nothingRemembered}
+use Rattle.order.specs.Order.{Called, Given, Remembered, Story, of, gives, defers, pendingBatch, single, happens, freshStory, nothingRemembered}
+use Rattle.order.specs.PlainQueue.{Stands}
 use Rattle.order.specs.Outcomes.{outcomeOf}
 use Rattle.order.proofs.Events.{futureIn, OwnFuture, Free, Finds}
 use Rattle.order.proofs.Ghost.{Ghost, pendingOf, ghostDoes, freshGhost}
@@ -152,14 +153,14 @@ module _ (m : Machine) (g : Ghost) (s : Story) (holds : Holds m g) (h : Futured 
 
   -- a result is given
   module _ (f : ℕ) (own : OwnFuture m i f) (done : futureIn m f .outcome ≢ Waiting) where
-    asked-stands : (j : ℕ) (x : Given) → At (gives i (some f) (s .clock) (s .clock) (answered (futureIn m f .outcome))) j x → Stands (s .order) x
+    asked-stands : (j : ℕ) (x : Given) → At (gives i (some f) none (s .clock) (answered (futureIn m f .outcome))) j x → Stands (s .order) x
     asked-stands j x q = ⊎-elim {C = Stands (s .order) x} (λ e. absurd (done e)) (λ w. stands (w .0) (w .1)) (waits-or-done (futureIn m f .outcome))
       where
         stands : (r : Result ℕ) → futureIn m f .outcome ≡ outcomeOf r → Stands (s .order) x
         stands r e =
             let w = h .done f r (own .handedOut) e in
-            subst (Stands (s .order)) (sym (given-alone i (some f) (s .clock) (s .clock) (futureIn m f .outcome) r e j x q))
-            (record { row = w .row; there = w .there; thread = w .thread ∙ own .owner; before = w .before; result = w .result })
+            subst (Stands (s .order)) (sym (given-alone i (some f) none (s .clock) (futureIn m f .outcome) r e j x q))
+            (record { row = w .row; there = w .there; thread = w .thread ∙ own .owner; call = w .call; before = w .before; result = w .result })
 
     future-asked : Futured m g (happens m s (FutureAsked i f))
     future-asked =

@@ -11,14 +11,15 @@ use Rattle.chain.specs.Positions.{At, In}
 use Rattle.chain.proofs.Positions.{within, one-element}
 use Rattle.call.specs.declared.answer.Outcome.the-variants.{Waiting}
 use Rattle.machine.specs.declared.Machine.{Machine}
-use Rattle.order.specs.Order.{Called, Effect, Given, Story, of, Ran, ran, Stands}
+use Rattle.order.specs.Order.{Called, Effect, Given, Story, of}
+use Rattle.order.specs.PlainQueue.{Ran, ran, Stands}
 use Rattle.order.proofs.Events.{futureIn, OwnFuture}
 use Rattle.order.proofs.Ghost.{Ghost}
 use Rattle.order.proofs.Futured.{Held, PendingFutures, BatchInCall, Futured, TakesEffect, OrderAfter}
 
 -- a result still stands where the calls are run as before
 pub stands-on : {order order′ : List Effect} (x : Given) → ((r : Ran) → In (ran order []) r → In (ran order′ []) r) → Stands order x → Stands order′ x
-stands-on x runs h = record { row = h .row; there = runs (h .row) (h .there); thread = h .thread; before = h .before; result = h .result }
+stands-on x runs h = record { row = h .row; there = runs (h .row) (h .there); thread = h .thread; call = h .call; before = h .before; result = h .result }
 
 -- the futures of one thread's pending calls are all different
 pub each-once : {m : Machine} {g : Ghost} {s : Story} {t : ℕ} → PendingFutures m g s t → (j k f : ℕ) → At (of s t .futures) j f → At (of s t .futures) k f → j ≡ k

@@ -18,7 +18,8 @@ use Rattle.call.specs.declared.answer.Future.{Future}
 use Rattle.call.specs.declared.answer.Outcome.the-variants.{Waiting}
 use Rattle.machine.specs.declared.Machine.{Machine}
 use Rattle.machine.specs.State.{rowAt, noFuture}
-use Rattle.order.specs.Order.{Called, Effect, Given, Remembered, Story, of, nothingRemembered, Stands}
+use Rattle.order.specs.Order.{Called, Effect, Given, Remembered, Story, of, nothingRemembered}
+use Rattle.order.specs.PlainQueue.{Stands}
 use Rattle.order.specs.Outcomes.{outcomeOf}
 use Rattle.order.proofs.Events.{futureIn, OwnFuture}
 use Rattle.order.proofs.Ghost.{Ghost, pendingOf}
@@ -146,7 +147,7 @@ module _ (m : Machine) (g : Ghost) (s : Story) (h : Futured m g s) (i : ℕ) (m�
 
 -- a result still stands later
 stands-later : {order : List Effect} (t f : ℕ) (r : Result ℕ) (now then : ℕ) → now ≤ then → Stands order (futureGiven t f r now) → Stands order (futureGiven t f r then)
-stands-later t f r now then le h = record { row = h .row; there = h .there; thread = h .thread; before = omega (arith, h .before); result = h .result }
+stands-later t f r now then le h = record { row = h .row; there = h .there; thread = h .thread; call = h .call; before = omega (arith, h .before); result = h .result }
 
 -- AFTER WHAT THREAD i DOES
 module _ (m : Machine) (g : Ghost) (s : Story) (h : Futured m g s) (i : ℕ) (m′ : Machine) (g′ : Ghost) (s′ : Story) (row : Row) (r : Remembered)

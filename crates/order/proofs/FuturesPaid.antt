@@ -11,7 +11,7 @@ use native.Mathlib.Decide.{ℕ-discrete}
 use lib.ListN.{length, getD, length-map}
 use lib.Seq.{getD-set-same, getD-set-other}
 use Rattle.chain.specs.Positions.{at, At, In}
-use Rattle.chain.proofs.Positions.{within, element, at-map}
+use Rattle.chain.proofs.Positions.{none-is-not-some, some-injective, within, element, at-map}
 use Rattle.tally.specs.Fifo.{Call, Result}
 use Rattle.thread.specs.Place.{placeAfter}
 use Rattle.row.specs.declared.Row.{Row}
@@ -24,7 +24,8 @@ use Rattle.machine.specs.declared.Machine.{Machine}
 use Rattle.machine.specs.State.{rowAt, memoryOf, noFuture}
 use Rattle.machine.specs.Pairing.{pairing, settled}
 use Rattle.machine.specs.Steps.{hop}
-use Rattle.order.specs.Order.{Given, Remembered, ResultIn, Story, of, gives, Stands}
+use Rattle.order.specs.Order.{Given, Remembered, Story, of, gives}
+use Rattle.order.specs.PlainQueue.{ResultIn, Stands}
 use Rattle.order.specs.Outcomes.{outcomeOf}
 use Rattle.order.proofs.Events.{futureIn, OwnFuture}
 use Rattle.order.proofs.Ghost.{Ghost, stepGhost, defers}
@@ -146,11 +147,12 @@ module _ (m : Machine) (g : Ghost) (s : Story) (holds : Holds m g) (h : Futured 
 
   -- the result stands, told for the future that it was paid to
   stands : (j f : ℕ) (r : Result ℕ) → At (of s i .futures) j f → At (ends .results) j r → (x : Given) → x .thread ≡ i → x .future ≡ some f → x .result ≡ r → s .clock ≤ x .time
-      → Stands (s′ .order) x
-  stands j f r q there x thread future result time = record {
+      → ((b : ℕ) → x .began ≡ some b → of s i .called .began ≡ b) → Stands (s′ .order) x
+  stands j f r q there x thread future result time call = record {
     row = record { effect = record { call = of s i .called; place = ends .place }; results = ends .results };
     there = ends .there;
     thread = ends .call .thread ∙ sym thread;
+    call = call;
     before = omega (arith, ends .early);
     result =
         subst (λ (o : Option ℕ). ResultIn (record { effect = record { call = of s i .called; place = ends .place }; results = ends .results }) x o) (sym future)
@@ -158,7 +160,7 @@ module _ (m : Machine) (g : Ghost) (s : Story) (holds : Holds m g) (h : Futured 
   }
 
   -- the answer's result is that of the future that was asked for
-  pub answer-stands : (j : ℕ) (x : Given) → At (gives i (of s i .called .asked) (of s i .called .began) (s .clock) (settled m₁ i 1 c .answer)) j x → Stands (s′ .order) x
+  pub answer-stands : (j : ℕ) (x : Given) → At (gives i (of s i .called .asked) (some (of s i .called .began)) (s .clock) (settled m₁ i 1 c .answer)) j x → Stands (s′ .order) x
   unfolding settled
   answer-stands j x q =
       let asked = ends .call .asks in
@@ -166,6 +168,7 @@ module _ (m : Machine) (g : Ghost) (s : Story) (holds : Holds m g) (h : Futured 
       let is = given-alone i _ _ _ _ (w .result) (ap (λ (r : Row). futureIn m′ (r .future) .outcome) row ∙ w .now) j x q in
       stands (asked .0) (rowAt m i .future) (w .result) (asked .1) (w .there) x (ap (λ (y : Given). y .thread) is)
       (ap (λ (y : Given). y .future) is ∙ ends .call .asked) (ap (λ (y : Given). y .result) is) (omega (arith, ap (λ (y : Given). y .time) is))
+      (λ b e. some-injective (sym (ap (λ (y : Given). y .began) is) ∙ e))
 
   module _ (later : s .clock ≤ s′ .clock) (r : Remembered) (p : Puts m s i m′ s′ (cleared (rowAt m₁ i)) r) (calls : r .calls ≡ []) (futures : r .futures ≡ []) where
     abbrev g₁ : Ghost
@@ -210,7 +213,7 @@ module _ (m : Machine) (g : Ghost) (s : Story) (holds : Holds m g) (h : Futured 
         here own =
             let q = was-pending f l own waits in
             let w = pays (q .0) f (q .1) in
-            stands (q .0) f o (q .1) (w .there ∙ ap some (one-result (w .result) o (sym (w .now) ∙ e))) _ (owners-stay f ∙ own) refl refl later
+            stands (q .0) f o (q .1) (w .there ∙ ap some (one-result (w .result) o (sym (w .now) ∙ e))) _ (owners-stay f ∙ own) refl refl later (λ b q. absurd (none-is-not-some refl q))
 
         elsewhere : futureIn m f .owner ≢ i → ⊥
         elsewhere ne = result-waits-not o (sym e ∙ ap (λ (x : Future). x .outcome) (untouched f l (inl ne)) ∙ waits)

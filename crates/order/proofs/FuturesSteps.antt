@@ -5,7 +5,7 @@ use Prim.Native.Nat.{ℕ, suc, _<_}
 use mathlib.Core.Path.{_≡_, refl, sym, ap, _∙_, subst}
 use mathlib.Core.Bool.{Bool, true, false, cond}
 use mathlib.Core.List.{List, [], _++_}
-use mathlib.Core.Option.{Option}
+use mathlib.Core.Option.{Option, some}
 use mathlib.Core.Logic.{_⊎_, inl, inr, ⊎-elim, _≢_}
 use native.Mathlib.Omega.{arith}
 use lib.ListN.{length, getD, set}
@@ -29,7 +29,8 @@ use Rattle.machine.specs.declared.Machine.{Machine}
 use Rattle.machine.specs.State.{rowAt, memoryOf}
 use Rattle.machine.specs.Pairing.{pairing, settled}
 use Rattle.machine.specs.Steps.{hop, tell, stepOf, isMore}
-use Rattle.order.specs.Order.{Called, Effect, Given, Remembered, Story, of, gives, lastReadAt, stepOrder, stepTaken, Stands}
+use Rattle.order.specs.Order.{Called, Effect, Given, Remembered, Story, of, gives, lastReadAt, stepOrder, stepTaken}
+use Rattle.order.specs.PlainQueue.{Stands}
 use Rattle.order.proofs.Events.{futureIn}
 use Rattle.order.proofs.Ghost.{Ghost, stepGhost, endGhost, defers, stepOfGhost}
 use Rattle.order.proofs.Invariant.{NotLinked}
@@ -70,7 +71,7 @@ module _ (m : Machine) (g : Ghost) (s : Story) (holds : Holds m g) (h : Futured 
   }
 
   abbrev gave : Answer → List Given
-  gave a = gives i (of s i .called .asked) (of s i .called .began) (s .clock) a
+  gave a = gives i (of s i .called .asked) (some (of s i .called .began)) (s .clock) a
 
   abbrev told : Answer → Story
   told a = record {
@@ -78,6 +79,7 @@ module _ (m : Machine) (g : Ghost) (s : Story) (holds : Holds m g) (h : Futured 
     order = order′;
     given = s .given ++ gave a;
     threads = set (s .threads) i (remembers (isMore a));
+    started = s .started;
     announced = s .announced;
   }
 

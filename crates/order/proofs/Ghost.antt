@@ -27,7 +27,7 @@ use Rattle.row.specs.declared.Row.{Row}
 use Rattle.machine.specs.declared.Machine.{Machine}
 use Rattle.machine.specs.State.{rowAt, memoryOf}
 use Rattle.machine.specs.Steps.{hop}
-use Rattle.order.specs.Links.{ifTaken, nodesFrom}
+use Rattle.order.specs.Links.{ifNone, nodesFrom}
 use Rattle.order.specs.Events.{Event, EnqueueStarts, DequeueStarts, EnqueueDeferred, DequeueDeferred, BatchSetOff, FutureAsked, StepTaken}
 
 -- the nodes of a batch with an enqueue, and its calls in calling order
@@ -89,7 +89,7 @@ batchOf g a = getD (g .batches) a noBatch
 -- what a step adds: a taken e2 or a3 links, a taken b2 installs; the other steps add nothing
 abbrev pub enqueueGhost : Memory → Ghost → ℕ → EnqueueStep → Ghost
 enqueueGhost m g n E1 = g
-enqueueGhost m g n (E2 t) = ifTaken (cellAt (m .links) (t .node) .link) (joins g t (n ∷ []) none) g
+enqueueGhost m g n (E2 t) = ifNone (cellAt (m .links) (t .node) .link) (joins g t (n ∷ []) none) g
 enqueueGhost m g n (E3 t) = g
 enqueueGhost m g n (E4 t x) = g
 enqueueGhost m g n (E5 t x) = g
@@ -101,7 +101,7 @@ batchGhost m g b (B2 f) = cond (sameHead (m .ends .head) (Plain f)) (installs g 
 abbrev pub runGhost : Memory → Ghost → ℕ → RunStep → Ghost
 runGhost m g a A1 = g
 runGhost m g a (A2 t) = g
-runGhost m g a (A3 t) = ifTaken (cellAt (m .links) (t .node) .link) (joins g t (batchOf g a .nodes) (some a)) g
+runGhost m g a (A3 t) = ifNone (cellAt (m .links) (t .node) .link) (joins g t (batchOf g a .nodes) (some a)) g
 runGhost m g a (A4 t) = g
 runGhost m g a (A5 o) = g
 runGhost m g a (A6 s x left) = g

@@ -10,9 +10,10 @@ use Rattle.machine.specs.declared.Machine.{Machine}
 use Rattle.order.proofs.Ghost.{Ghost}
 use Rattle.order.proofs.Shared.{sharedOf}
 use Rattle.order.proofs.Invariant.{Inv, NotLinked}
+use Rattle.order.proofs.Knows.{goalFrom}
 use Rattle.order.proofs.Grows.{Grows, linked-stays}
 use Rattle.order.proofs.RunReads.{linked-or-not}
-use Rattle.order.proofs.AbstractHead.{headPosition, goalFrom, linked-somewhere, position-of-plain, position-until-linked, position-once-linked}
+use Rattle.order.proofs.AbstractHead.{headPosition, linked-somewhere, position-of-plain, position-until-linked, position-once-linked}
 
 module _ (m m′ : Machine) (g g′ : Ghost) (i : Inv (sharedOf m) g) (i′ : Inv (sharedOf m′) g′) (grows : Grows (sharedOf m) g (sharedOf m′) g′) where
   pub position-stays : m′ .ends .head ≡ m .ends .head → ((a : ℕ) → NotLinked g a → NotLinked g′ a) → headPosition m′ g′ ≡ headPosition m g

@@ -1,5 +1,5 @@
 -- What a thread knows, by its place: of its own nodes and announcement, which nobody else touches, and of what it has read, which stays true.
-use Prim.Native.Nat.{ℕ, suc, _+_, _<_, _≤_}
+use Prim.Native.Nat.{ℕ, suc, _+_, _-_, _<_, _≤_}
 use mathlib.Core.Path.{_≡_}
 use mathlib.Core.List.{List, []}
 use mathlib.Core.Option.{none}
@@ -86,12 +86,15 @@ pub record Past (s : Shared) (g : Ghost) (a : ℕ) : Type 0 where
   pub is : announcementAt (s .announcements) a .«old_tail» ≡ Set old
   pub past : old .count .0 < s .tail .count .0
 
--- the position of the head that a7 will set, and the successful dequeues, for an old tail o
+-- the successful dequeues, and the position of the head that a7 will set, for a batch linked behind position p; and for an old tail o
+abbrev pub goalFrom : Request → ℕ → ℕ
+goalFrom k p = k .«old_head» .count .0 + successfulOn (k .tally) (p - k .«old_head» .count .0)
+
 abbrev pub risesBy : Request → Tail → ℕ
 risesBy k o = successfulOn (k .tally) (sizeAt k o)
 
 abbrev pub goal : Request → Tail → ℕ
-goal k o = k .«old_head» .count .0 + risesBy k o
+goal k o = goalFrom k (o .count .0)
 
 abbrev pub requestOf : Shared → ℕ → Request
 requestOf s a = announcementAt (s .announcements) a .request

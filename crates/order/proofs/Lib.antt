@@ -54,6 +54,7 @@ pub mod Outcomes
 pub mod FuturesDeferred
 pub mod FuturesEntries
 pub mod InCall
+pub mod Started
 pub mod PendingItems
 pub mod FuturesPaid
 pub mod FuturesSteps

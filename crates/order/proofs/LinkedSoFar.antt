@@ -32,7 +32,7 @@ use Rattle.row.specs.declared.Row.{Row}
 use Rattle.machine.specs.declared.Machine.{Machine}
 use Rattle.machine.specs.State.{rowAt, memoryOf}
 use Rattle.machine.specs.Steps.{hop}
-use Rattle.order.specs.Links.{ifTaken}
+use Rattle.order.specs.Links.{ifNone}
 use Rattle.order.specs.Events.{Event, EnqueueStarts, DequeueStarts, EnqueueDeferred, DequeueDeferred, BatchSetOff, FutureAsked, StepTaken, does, keptBeside, events}
 use Rattle.order.proofs.Events.{Finds, over-entries, both, kept-both}
 use Rattle.order.proofs.Ghost.{Ghost, batchOf, joins, stepGhost, endGhost, stepOfGhost, ghostDoes, freshGhost}
@@ -104,7 +104,7 @@ module _ (m : Machine) (g : Ghost) (ok : Ok m g) (i : ℕ) (lt : i < 8) (steps :
   at-the-last t read free = omega (arith, none-is-the-last (ok .inv .chain .chain) _ _ (read .is) free, within (g .chain) _ (read .is))
 
   taken-tells : (t : Tail) → TailRead (sharedOf m) g t → (l nodes : List ℕ) (who : Option ℕ) (x : Link) → cellAt (m .links) (t .node) .link ≡ x
-      → (next (m .links) (t .node) ≡ none → nodes ≡ l) → Tells (ifTaken x (joins g t nodes who) g) (steps ++ ifTaken x (l ∷ []) [])
+      → (next (m .links) (t .node) ≡ none → nodes ≡ l) → Tells (ifNone x (joins g t nodes who) g) (steps ++ ifNone x (l ∷ []) [])
   taken-tells t read l nodes who None e same =
       let free : next (m .links) (t .node) ≡ none = ap led e in
       subst (λ (x : List ℕ). Tells (joins g t nodes who) (steps ++ (x ∷ []))) (same free) (joins-tells g steps h t nodes who (at-the-last t read free))

@@ -30,7 +30,7 @@ use Rattle.order.proofs.Steps.{request, place-step, batches-kept}
 use Rattle.order.proofs.Reached.{Holds}
 use Rattle.order.proofs.Orderly.{Orderly, KnowsOf, Onward}
 use Rattle.order.proofs.OrderStays.{knows-of-stays}
-use Rattle.order.proofs.Futured.{Futured}
+use Rattle.order.proofs.Futured.{Futured, OrderAfter}
 use Rattle.order.proofs.FuturesKept.{Puts, row-here, row-elsewhere, remembered-here, remembered-elsewhere}
 use Rattle.order.proofs.FuturesSteps.{step-futured}
 use Rattle.order.proofs.OrderFine.{stepStory, KnowsOfAfter, OrderFine, of-own}
@@ -162,6 +162,9 @@ module _ (m : Machine) (g : Ghost) (s : Story) (holds : Holds m g) (orderly : Or
   own-knows (afterwards.Item n) e = subst (Own (afterwards.Item n)) (sym (row-here (puts (afterwards.Item n) e))) tt
   own-knows (afterwards.Pair from) e = subst (Own (afterwards.Pair from)) (sym (row-here (puts (afterwards.Pair from) e))) tt
   own-knows (afterwards.PairDequeues from taken) e = subst (Own (afterwards.PairDequeues from taken)) (sym (row-here (puts (afterwards.PairDequeues from taken) e))) tt
+
+  pub step-effect : OrderAfter m s (stepOrder (memoryOf m) s i (rowAt m i .place))
+  step-effect = fine .effect
 
   pub step-orderly : Orderly (stepOf m i .machine) (stepOfGhost m g i) (stepTaken m s i)
   step-orderly = told-orderly (hop m i .after) refl

@@ -53,7 +53,7 @@ ghostWith g pending = record {
 }
 
 abbrev pub storyWith : Story → List Given → List Remembered → Story
-storyWith s given threads = record { clock = s .clock; order = s .order; given = given; threads = threads; announced = s .announced }
+storyWith s given threads = record { clock = s .clock; order = s .order; given = given; threads = threads; started = s .started; announced = s .announced }
 
 module _ (m : Machine) (g : Ghost) (s : Story) (rows : List Row) (futures : List Future) (pending : List (List (Call ℕ))) (given : List Given) (threads : List Remembered) where
   abbrev m′ : Machine

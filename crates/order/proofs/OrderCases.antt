@@ -21,7 +21,8 @@ use Rattle.machine.specs.Pairing.{pairFrom, pairing, settled}
 use Rattle.machine.specs.Contents.{abstractHead, chainAfter, contents}
 use Rattle.machine.specs.Entries.{decided, linkedBehind, deferEnqueue, deferDequeue, setOff, startEnqueue, startDequeue, evaluateWaiting, evaluateOwn, evaluateKnown, evaluate, enqueue as enqueueEntry, dequeue as dequeueEntry, futureEnqueue, futureDequeue, run, apply}
 use Rattle.order.specs.Events.{keptBeside, runEvents, entryEvents, events}
-use Rattle.order.specs.Order.{Effect, Given, Story, Ran, putIn, storyOf, ran, leaves}
+use Rattle.order.specs.Order.{Effect, Given, Story, putIn, storyOf}
+use Rattle.order.specs.PlainQueue.{Ran, ran, leaves}
 use Rattle.order.specs.Reached.{after}
 
 -- what a schedule comes to
@@ -71,10 +72,10 @@ pub batch-stands-at-its-last-read : shown readsToTheEnd ≡ record {
       ∷ record { call = record { thread = 1; calls = enqueue 20 ∷ []; futures = []; asked = none; began = 10 }; place = 12 }
       ∷ [];
   given =
-      record { thread = 0; future = none; began = 0; result = ok; time = 3 }
-      ∷ record { thread = 1; future = none; began = 10; result = ok; time = 13 }
-      ∷ record { thread = 0; future = some 0; began = 6; result = item 10; time = 14 }
-      ∷ record { thread = 0; future = some 1; began = 15; result = empty; time = 15 }
+      record { thread = 0; future = none; began = some 0; result = ok; time = 3 }
+      ∷ record { thread = 1; future = none; began = some 10; result = ok; time = 13 }
+      ∷ record { thread = 0; future = some 0; began = some 6; result = item 10; time = 14 }
+      ∷ record { thread = 0; future = some 1; began = none; result = empty; time = 15 }
       ∷ [];
   results = (ok ∷ []) ∷ (item 10 ∷ empty ∷ []) ∷ (ok ∷ []) ∷ [];
   left = 20 ∷ [];
@@ -105,8 +106,8 @@ pub batch-stands-where-it-was-linked : shown helped ≡ record {
       ∷ record { call = record { thread = 0; calls = dequeue ∷ []; futures = []; asked = none; began = 5 }; place = 22 }
       ∷ [];
   given =
-      record { thread = 1; future = some 1; began = 2; result = item 5; time = 16 }
-      ∷ record { thread = 0; future = none; began = 5; result = empty; time = 22 }
+      record { thread = 1; future = some 1; began = some 2; result = item 5; time = 16 }
+      ∷ record { thread = 0; future = none; began = some 5; result = empty; time = 22 }
       ∷ [];
   results = (ok ∷ item 5 ∷ []) ∷ (empty ∷ []) ∷ [];
   left = [];

@@ -18,7 +18,8 @@ use Rattle.row.specs.declared.Row.{Row}
 use Rattle.call.specs.declared.answer.Item.{Item}
 use Rattle.machine.specs.declared.Machine.{Machine}
 use Rattle.machine.specs.State.{rowAt}
-use Rattle.order.specs.Order.{Called, Effect, Story, of, nowLast, Ran, ran, leaves}
+use Rattle.order.specs.Order.{Called, Effect, Story, of, nowLast}
+use Rattle.order.specs.PlainQueue.{Ran, ran, leaves}
 use Rattle.order.proofs.Ghost.{Ghost}
 use Rattle.order.proofs.Shared.{sharedOf}
 use Rattle.order.proofs.Invariant.{Inv, Linked, NotLinked}

@@ -7,7 +7,7 @@ use mathlib.Core.Option.{Option, none, some}
 use native.Mathlib.Omega.{arith}
 use lib.ListN.{length, take, drop}
 use Rattle.chain.specs.Positions.{at, At, In}
-use Rattle.chain.proofs.Positions.{the-only-one}
+use Rattle.chain.proofs.Positions.{some-injective, the-only-one}
 use Rattle.tally.specs.Fifo.{Result, ok, item, empty, results}
 use Rattle.tally.specs.Excess.{enqueued, enqueues}
 use Rattle.tally.specs.declared.Tally.{Tally}
@@ -27,7 +27,8 @@ use Rattle.machine.specs.Steps.{hop, tell, stepOf}
 use Rattle.order.specs.Promises.{requestIn}
 use Rattle.order.specs.Outcomes.{outcomeOf}
 use Rattle.order.specs.PairingReads.{turns, turnsFrom, batchCursor, dequeuesCursor}
-use Rattle.order.specs.Order.{Called, Effect, Given, Story, of, resultsIn, ResultIn, Stands}
+use Rattle.order.specs.Order.{Called, Effect, Given, Story, of, resultsIn}
+use Rattle.order.specs.PlainQueue.{ResultIn, Stands}
 use Rattle.order.proofs.Ghost.{Ghost, Batch, pendingOf, stepGhost}
 use Rattle.order.proofs.Shared.{sharedOf, next}
 use Rattle.order.proofs.Invariant.{Inv, Shape}
@@ -43,15 +44,16 @@ use Rattle.order.proofs.OrderFine.{SingleEnded, BatchRan, DequeuesRan, 
 -- a single call
 module _ (m : Machine) (g′ : Ghost) (s : Story) (i : ℕ) (order′ : List Effect) where
   abbrev toldAs : Result ℕ → Given
-  toldAs r = record { thread = i; future = of s i .called .asked; began = of s i .called .began; result = r; time = s .clock }
+  toldAs r = record { thread = i; future = of s i .called .asked; began = some (of s i .called .began); result = r; time = s .clock }
 
   single-result : (r : Result ℕ) → SingleEnded s i order′ r → Stands order′ (toldAs r)
   single-result r w = record {
     row = record { effect = record { call = of s i .called; place = w .place }; results = r ∷ [] };
     there = w .there;
     thread = w .thread;
+    call = λ b e. some-injective e;
     before = w .early;
-    result = subst (ResultIn (record { effect = record { call = of s i .called; place = w .place }; results = r ∷ [] }) (toldAs r)) (sym (w .asked)) (w .futures, refl, refl);
+    result = subst (ResultIn (record { effect = record { call = of s i .called; place = w .place }; results = r ∷ [] }) (toldAs r)) (sym (w .asked)) (w .futures, refl);
   }
 
   single-ends : (r : Result ℕ) → SingleEnded s i order′ r → resultsIn (stepOf m i .answer) ≡ r ∷ [] → SingleEnds m g′ s i order′

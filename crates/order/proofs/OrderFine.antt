@@ -20,7 +20,8 @@ use Rattle.call.specs.declared.answer.Item.{Item}
 use Rattle.machine.specs.declared.Machine.{Machine}
 use Rattle.machine.specs.State.{rowAt, memoryOf, withMemory}
 use Rattle.order.specs.Promises.{requestIn}
-use Rattle.order.specs.Order.{Called, Effect, Story, nothingRemembered, of, ran}
+use Rattle.order.specs.Order.{Called, Effect, Story, nothingRemembered, of}
+use Rattle.order.specs.PlainQueue.{ran}
 use Rattle.order.proofs.Ghost.{Ghost}
 use Rattle.order.proofs.Shared.{sharedOf, inMemory}
 use Rattle.order.proofs.Invariant.{Inv, Linked}
@@ -40,6 +41,7 @@ stepStory s i order read = record {
   order = order;
   given = s .given;
   threads = set (s .threads) i (record { calls = of s i .calls; futures = of s i .futures; called = of s i .called; lastRead = read });
+  started = s .started;
   announced = s .announced;
 }
 

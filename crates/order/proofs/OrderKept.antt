@@ -14,7 +14,8 @@ use Rattle.tally.specs.declared.Tally.{Tally}
 use Rattle.memory.specs.declared.Request.{Request}
 use Rattle.machine.specs.declared.Machine.{Machine}
 use Rattle.order.specs.Promises.{requestIn}
-use Rattle.order.specs.Order.{Called, Effect, Story, of, Ran, ran}
+use Rattle.order.specs.Order.{Called, Effect, Story, of}
+use Rattle.order.specs.PlainQueue.{Ran, ran}
 use Rattle.order.proofs.Ghost.{Ghost, Batch}
 use Rattle.order.proofs.Shared.{sharedOf}
 use Rattle.order.proofs.Invariant.{Inv, Linked, NotLinked}

@@ -13,7 +13,8 @@ use Rattle.chain.specs.Positions.{at, At, In}
 use Rattle.row.specs.declared.Row.{Row}
 use Rattle.machine.specs.declared.Machine.{Machine}
 use Rattle.machine.specs.State.{rowAt}
-use Rattle.order.specs.Order.{Called, Effect, Remembered, Story, of, starts, ran, nothingRemembered}
+use Rattle.order.specs.Order.{Called, Effect, Remembered, Story, of, starts, nothingRemembered}
+use Rattle.order.specs.PlainQueue.{ran}
 use Rattle.order.proofs.Events.{Free}
 use Rattle.order.proofs.Ghost.{Ghost}
 use Rattle.order.proofs.Shared.{sharedOf}

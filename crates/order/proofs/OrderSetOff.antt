@@ -69,6 +69,7 @@ module _ (m : Machine) (g : Ghost) (s : Story) (holds : Holds m g) (h : Orderly 
     order = s .order;
     given = s .given;
     threads = set (s .threads) i (remembers s i batch);
+    started = s .started ++ (batch ∷ []);
     announced = cond b (s .announced) (s .announced ++ (batch ∷ []));
   }
 

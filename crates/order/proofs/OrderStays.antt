@@ -22,7 +22,8 @@ use Rattle.thread.specs.declared.dequeues.DequeuesStep.{DequeuesStep}
 use Rattle.thread.specs.declared.dequeues.DequeuesStep.the-variants.{Q1, Q2, Q3}
 use Rattle.row.specs.declared.Row.{Row}
 use Rattle.machine.specs.declared.Machine.{Machine}
-use Rattle.order.specs.Order.{Called, Effect, Story, Remembered, of, ran}
+use Rattle.order.specs.Order.{Called, Effect, Story, Remembered, of}
+use Rattle.order.specs.PlainQueue.{ran}
 use Rattle.order.proofs.Ghost.{Ghost}
 use Rattle.order.proofs.Shared.{sharedOf}
 use Rattle.order.proofs.Invariant.{Inv}

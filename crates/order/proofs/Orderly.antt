@@ -26,7 +26,8 @@ use Rattle.row.specs.declared.Row.{Row}
 use Rattle.machine.specs.declared.Machine.{Machine}
 use Rattle.machine.specs.Contents.{contents}
 use Rattle.order.specs.Promises.{requestIn}
-use Rattle.order.specs.Order.{Called, Effect, Story, of, Ran, ran, leaves}
+use Rattle.order.specs.Order.{Called, Effect, Story, of}
+use Rattle.order.specs.PlainQueue.{Ran, ran, leaves}
 use Rattle.order.proofs.Ghost.{Ghost, Batch as GhostBatch}
 use Rattle.order.proofs.Shared.{sharedOf}
 use Rattle.order.proofs.Invariant.{Inv, Linked, NotLinked}

@@ -35,7 +35,7 @@ pub one-result : (r s : Result ℕ) → outcomeOf r ≡ outcomeOf s → r ≡ s
 one-result r s e = let both : r ∷ [] ≡ s ∷ [] = sym (told r) ∙ ap (λ (o : Outcome). resultsIn (answered o)) e ∙ told s in cc both
 
 -- what the answer gives is that result alone
-pub given-alone : (i : ℕ) (f : Option ℕ) (began now : ℕ) (o : Outcome) (r : Result ℕ) → o ≡ outcomeOf r → (j : ℕ) (x : Given) → At (gives i f began now (answered o)) j x
+pub given-alone : (i : ℕ) (f began : Option ℕ) (now : ℕ) (o : Outcome) (r : Result ℕ) → o ≡ outcomeOf r → (j : ℕ) (x : Given) → At (gives i f began now (answered o)) j x
     → x ≡ record { thread = i; future = f; began = began; result = r; time = now }
 given-alone i f began now o r e j x p =
     the-only-one _ x j

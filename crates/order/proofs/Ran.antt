@@ -1,21 +1,23 @@
 -- The calls of an order, run singly on a plain list: what one more call at the end adds, and that a batch of dequeues may be put in before calls
 -- that only enqueue. All of it comes down to two numbers and a list: the items enqueued, and how many of them were taken.
-use Prim.Native.Nat.{ℕ, suc, _+_, _<_, _≤_}
+use Prim.Native.Nat.{ℕ, zero, suc, _+_, _<_, _≤_}
 use mathlib.Core.Path.{_≡_, refl, sym, ap, ap₂, _∙_}
 use mathlib.Core.Bool.{Bool, cond}
 use mathlib.Core.List.{List, [], _∷_, _++_, append-assoc, append-nil}
+use mathlib.Core.Option.{some}
 use mathlib.Core.Logic.{⊎-elim}
 use native.Mathlib.Omega.{arith}
 use lib.ListN.{length, drop, length-append}
 use lib.Seq.{drop-drop, drop-append-le}
 use borrow.Author.Tests.{lt-ltb, le-ltb}
 use Rattle.chain.specs.Positions.{at, At, In}
-use Rattle.chain.proofs.Positions.{stays, in-either, at-the-end, at-right}
+use Rattle.chain.proofs.Positions.{none-is-not-some, some-injective, stays, in-either, at-the-end, at-right}
 use Rattle.tally.specs.Fifo.{Call, Result, left, results, successful}
 use Rattle.tally.specs.Excess.{enqueued, dequeues}
 use Rattle.tally.proofs.Counts.{left-is}
 use Rattle.tally.proofs.OneKind.{successful-le, results-enqueues, successful-enqueues}
-use Rattle.order.specs.Order.{Effect, Ran, ran, leaves, putIn}
+use Rattle.order.specs.Order.{Effect, putIn}
+use Rattle.order.specs.PlainQueue.{Ran, ran, leaves}
 
 -- the items that an order enqueues, and how many of its dequeues succeed
 unfoldable pub enqueuedIn : List Effect → List ℕ
@@ -61,6 +63,13 @@ pub ran-then : (xs ys : List Effect) (q : List ℕ) → ran (xs ++ ys) q ≡ ran
 unfolding ran leaves
 ran-then [] ys q = refl
 ran-then (x ∷ xs) ys q = ap (λ (r : List Ran). record { effect = x; results = results (x .call .calls) q } ∷ r) (ran-then xs ys (left (x .call .calls) q))
+
+-- a row of the run stands where its call stands in the order
+pub ran-where : (xs : List Effect) (q : List ℕ) (j : ℕ) (r : Ran) → At (ran xs q) j r → At xs j (r .effect)
+unfolding ran at
+ran-where [] q j r p = absurd (none-is-not-some refl p)
+ran-where (x ∷ xs) q zero r p = ap (λ (y : Ran). some (y .effect)) (some-injective p)
+ran-where (x ∷ xs) q (suc j) r p = ran-where xs (left (x .call .calls) q) j r p
 
 -- one more call, at the end
 abbrev pub rowOn : Effect → List ℕ → Ran

@@ -39,19 +39,20 @@ use Rattle.thread.specs.Running.{runAccess, runAfter, runningAt, afterA2, after
 use Rattle.row.specs.declared.Row.{Row}
 use Rattle.machine.specs.declared.Machine.{Machine}
 use Rattle.machine.specs.State.{memoryOf, withMemory}
-use Rattle.order.specs.Links.{led, next, ifTaken}
+use Rattle.order.specs.Links.{led, next, ifNone}
 use Rattle.order.specs.Promises.{requestIn}
-use Rattle.order.specs.Order.{Called, Effect, Story, noCalled, of, runOrder, ran, leaves}
+use Rattle.order.specs.Order.{Called, Effect, Story, noCalled, of, runOrder}
+use Rattle.order.specs.PlainQueue.{ran, leaves}
 use Rattle.order.proofs.Ghost.{Ghost, Batch, batchOf, joins, installs, batchGhost, runGhost}
 use Rattle.order.proofs.Shared.{sharedOf, inMemory}
 use Rattle.order.proofs.Invariant.{Inv, Linked, NotLinked}
 use Rattle.order.proofs.Ends.{position-small, goes-up}
 use Rattle.order.proofs.SameEnds.{same-head-is-plain, same-head-is-announced}
 use Rattle.order.proofs.Grows.{Grows}
-use Rattle.order.proofs.Knows.{KnowsBatch, NotAnnounced, KnowsResume, KnowsRun}
+use Rattle.order.proofs.Knows.{KnowsBatch, NotAnnounced, KnowsResume, KnowsRun, goalFrom}
 use Rattle.order.proofs.LinkSteps.{at-last, old-or-new}
 use Rattle.order.proofs.RunSteps.{own-batch, asks, not-yet, in-head, old-head-before, batch-joins, now-linked}
-use Rattle.order.proofs.AbstractHead.{headPosition, goalFrom, position-of-plain, position-until-linked, position-once-linked}
+use Rattle.order.proofs.AbstractHead.{headPosition, position-of-plain, position-until-linked, position-once-linked}
 use Rattle.order.proofs.PairingResults.{valueOf}
 use Rattle.order.proofs.Orderly.{itemsOf, found, RunOn, Announces, KnowsOfResume, Onward, queue-is}
 use Rattle.order.proofs.OrderStays.{announces-stays, resume-stays}
@@ -242,10 +243,10 @@ module _ (m : Machine) (g : Ghost) (s : Story) (i : ℕ) (r : Row) (here : Here 
       }
 
     a3-order : (l : Tail) → KnowsRun (sharedOf m) g a (A3 l) → (v : Link) → cellAt (m .links) (l .node) .link ≡ v
-        → Inv (inMemory (sharedOf m) (linkCas (memoryOf m) (l .node) (requestIn m a .first) v .memory)) (ifTaken v (joins g l (batchOf g a .nodes) (some a)) g)
-        → Grows (sharedOf m) g (inMemory (sharedOf m) (linkCas (memoryOf m) (l .node) (requestIn m a .first) v .memory)) (ifTaken v (joins g l (batchOf g a .nodes) (some a)) g)
-        → OrderFine m g s i r (withMemory m (linkCas (memoryOf m) (l .node) (requestIn m a .first) v .memory)) (ifTaken v (joins g l (batchOf g a .nodes) (some a)) g)
-        (stepStory s i (ifTaken v (s .order ++ (record { call = getD (s .announced) a noCalled; place = s .clock } ∷ [])) (s .order)) read)
+        → Inv (inMemory (sharedOf m) (linkCas (memoryOf m) (l .node) (requestIn m a .first) v .memory)) (ifNone v (joins g l (batchOf g a .nodes) (some a)) g)
+        → Grows (sharedOf m) g (inMemory (sharedOf m) (linkCas (memoryOf m) (l .node) (requestIn m a .first) v .memory)) (ifNone v (joins g l (batchOf g a .nodes) (some a)) g)
+        → OrderFine m g s i r (withMemory m (linkCas (memoryOf m) (l .node) (requestIn m a .first) v .memory)) (ifNone v (joins g l (batchOf g a .nodes) (some a)) g)
+        (stepStory s i (ifNone v (s .order ++ (record { call = getD (s .announced) a noCalled; place = s .clock } ∷ [])) (s .order)) read)
         (runningAt a k (afterA3 l (linkIn (linkCas (memoryOf m) (l .node) (requestIn m a .first) v .found)) (requestIn m a .first)))
     a3-order l knows None e inv′ grows = a3-taken l knows (ap led e) inv′ grows
     a3-order l knows (To x) e inv′ grows =

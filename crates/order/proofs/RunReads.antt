@@ -25,13 +25,14 @@ use Rattle.memory.specs.declared.OldTail.{OldTail}
 use Rattle.memory.specs.declared.OldTail.the-variants.{Unset, Set}
 use Rattle.memory.specs.declared.Request.{Request}
 use Rattle.memory.specs.Memory.{cellAt, announcementAt}
-use Rattle.thread.specs.declared.running.RunStep.the-variants.{A2, A3, A6, A7}
+use Rattle.thread.specs.declared.running.RunStep.{RunStep}
+use Rattle.thread.specs.declared.running.RunStep.the-variants.{A1, A2, A3, A4, A5, A6, A7, A8}
 use Rattle.thread.specs.Running.{afterA2, afterA6, sizeAt, walkTo}
 use Rattle.row.specs.declared.Row.{Row}
 use Rattle.order.proofs.Ghost.{Ghost, Batch}
 use Rattle.order.proofs.Shared.{Shared, next, led}
-use Rattle.order.proofs.Invariant.{Linked, NotLinked, Inv}
-use Rattle.order.proofs.Knows.{OneFurther, Past, requestOf, risesBy, goal, KnowsRun}
+use Rattle.order.proofs.Invariant.{TailAt, Linked, NotLinked, Inv}
+use Rattle.order.proofs.Knows.{OneFurther, Past, requestOf, goalFrom, risesBy, goal, KnowsRun}
 use Rattle.order.proofs.EnqueueSteps.{tail-now, found-behind, step-behind}
 
 -- whether an announcement's batch is linked
@@ -45,6 +46,17 @@ linked-or-not (some b ∷ l) a =
       | yes e ↦ inl (0, ap (λ (x : ℕ). some (some x)) e)
       | no ne ↦ ⊎-elim (λ h. inl (suc (h .0), h .1)) (λ h. inr (elim [ zero ↦ λ p. ne (some-injective (some-injective p)) | suc j ↦ λ p. h j p ])) (linked-or-not l a)
     ]
+
+-- the way to a7 from an old tail o
+abbrev pub ArrivesAt : Ghost → Request → Tail → RunStep → Type 0
+ArrivesAt g k o A1 = ⊥
+ArrivesAt g k o (A2 t) = ⊥
+ArrivesAt g k o (A3 t) = ⊥
+ArrivesAt g k o (A4 t) = ⊥
+ArrivesAt g k o (A5 t) = ⊥
+ArrivesAt g k o (A6 rise x left) = (j : ℕ) × At (g .chain) j x × (0 < left) × (j + left ≡ goal k o) × (rise ≡ risesBy k o)
+ArrivesAt g k o (A7 rise x) = At (g .chain) (goal k o) x × (rise ≡ risesBy k o)
+ArrivesAt g k o (A8 t x) = ⊥
 
 same-announcement : {a b : ℕ} → Announced a ≡ Announced b → a ≡ b
 same-announcement e = cc
@@ -124,17 +136,19 @@ module _ (s : Shared) (g : Ghost) (i : Inv s g) (t : ℕ) (r : Row) (a : ℕ) (t
       passed b h = ⊎-elim (λ w. w) (late b h) (i .linked .waits b j (l .count .0) h (k .0 .ends))
 
   -- the new head's position is one of the chain: s ≤ z + enqueues
-  pub goal-within : (p : Past s g a) → goal (requestOf s a) (p .old) < length (g .chain)
-  goal-within p =
-      let l = i .linked .oldTails a (p .old) (p .is) there .0 in
-      let f = i .linked .shape a (l .step) (p .old .count .0) (l .is) (l .from) in
+  pub goal-in-chain : (p : ℕ) → Linked g a p → goalFrom (requestOf s a) p < length (g .chain)
+  goal-in-chain p l =
+      let f = i .linked .shape a (l .step) p (l .is) (l .from) in
       let b = the-batch in
       let asks = i .batches .asks a (b .0) (b .1) in
-      let z = sizeAt (requestOf s a) (p .old) in
-      let few : risesBy (requestOf s a) (p .old) ≤ z + requestOf s a .tally .enqueues =
+      let z = p - requestOf s a .«old_head» .count .0 in
+      let few : successfulOn (requestOf s a .tally) z ≤ z + requestOf s a .tally .enqueues =
       subst (λ (y : Tally). successfulOn y z ≤ z + y .enqueues) (sym (asks .tally)) (successful-le-present (b .0 .calls) z) in
       let c = within (g .chain) _ (f .lastAt) in
       omega (arith, f .oldHeadBefore)
+
+  pub goal-within : (p : Past s g a) → goal (requestOf s a) (p .old) < length (g .chain)
+  goal-within p = goal-in-chain (p .old .count .0) (i .linked .oldTails a (p .old) (p .is) there .0)
 
   -- a6 never meets a missing link
   pub after-a6 : (rise x left : ℕ) → KnowsRun s g a (A6 rise x left) → (v : Link) → cellAt (s .links) x .link ≡ v → KnowsRun s g a (afterA6 rise x left v)
@@ -151,15 +165,12 @@ module _ (s : Shared) (g : Ghost) (i : Inv s g) (t : ℕ) (r : Row) (a : ℕ) (t
           (k .0, subst (λ (m : ℕ). At (g .chain) m y) one behind, k .5)
       on false q = (k .0, suc (k .1), behind, omega (arith, leb-false left 1 q), omega (arith, leb-false left 1 q, k .4), k .5)
 
-  -- after a5: no walk, s from the old head, or s - z from the old tail
-  pub after-a5 : (p : Past s g a) → KnowsRun s g a (walkTo (requestOf s a) (p .old))
-  after-a5 p = by-rise (eqb rise 0) refl
+  -- a7 has its goal at hand, or a walk begins that ends there: no walk, s from the old head, or s - z from the old tail
+  pub arrives-at-the-goal : (o : Tail) → Linked g a (o .count .0) → TailAt g o → ArrivesAt g (requestOf s a) o (walkTo (requestOf s a) o)
+  arrives-at-the-goal o l is = by-rise (eqb rise 0) refl
     where
       k : Request
       k = requestOf s a
-
-      o : Tail
-      o = p .old
 
       z : ℕ
       z = sizeAt k o
@@ -167,28 +178,38 @@ module _ (s : Shared) (g : Ghost) (i : Inv s g) (t : ℕ) (r : Row) (a : ℕ) (t
       rise : ℕ
       rise = risesBy k o
 
-      linked : Linked g a (o .count .0) × At (g .chain) (o .count .0) (o .node)
-      linked = i .linked .oldTails a o (p .is) there
-
       -- the old head is not behind the old tail
       before : k .«old_head» .count .0 ≤ o .count .0
-      before = i .linked .shape a (linked .0 .step) (o .count .0) (linked .0 .is) (linked .0 .from) .oldHeadBefore
+      before = i .linked .shape a (l .step) (o .count .0) (l .is) (l .from) .oldHeadBefore
 
-      from-old-tail : (b : Bool) → eqb rise z ≡ b → z ≤ rise → KnowsRun s g a (cond b (A7 rise (o .node)) (A6 rise (o .node) (rise - z)))
+      from-old-tail : (b : Bool) → eqb rise z ≡ b → z ≤ rise → ArrivesAt g k o (cond b (A7 rise (o .node)) (A6 rise (o .node) (rise - z)))
       from-old-tail true q h =
           let here : o .count .0 ≡ goal k o = omega (arith, eqb-true rise z q, before) in
-          (p, subst (λ (m : ℕ). At (g .chain) m (o .node)) here (linked .1), refl)
+          (subst (λ (m : ℕ). At (g .chain) m (o .node)) here is, refl)
       from-old-tail false q h =
           let more : rise ≢ z = eqb-false rise z q in
-          (p, o .count .0, linked .1, omega arith, omega (arith, before), refl)
+          (o .count .0, is, omega arith, omega (arith, before), refl)
 
-      from-old-head : (b : Bool) → ltb rise z ≡ b → rise ≢ 0 → KnowsRun s g a (cond b (A6 rise (k .«old_head» .node) rise) (cond (eqb rise z) (A7 rise (o .node)) (A6 rise (o .node) (rise - z))))
-      from-old-head true q h = (p, k .«old_head» .count .0, i .head .oldHeadAt a there, omega arith, refl, refl)
+      from-old-head : (b : Bool) → ltb rise z ≡ b → rise ≢ 0 → ArrivesAt g k o (cond b (A6 rise (k .«old_head» .node) rise) (cond (eqb rise z) (A7 rise (o .node)) (A6 rise (o .node) (rise - z))))
+      from-old-head true q h = (k .«old_head» .count .0, i .head .oldHeadAt a there, omega arith, refl, refl)
       from-old-head false q h = from-old-tail (eqb rise z) refl (ltb-false rise z q)
 
       by-rise : (b : Bool) → eqb rise 0 ≡ b
-          → KnowsRun s g a (cond b (A7 rise (k .«old_head» .node)) (cond (ltb rise z) (A6 rise (k .«old_head» .node) rise) (cond (eqb rise z) (A7 rise (o .node)) (A6 rise (o .node) (rise - z)))))
+          → ArrivesAt g k o (cond b (A7 rise (k .«old_head» .node)) (cond (ltb rise z) (A6 rise (k .«old_head» .node) rise) (cond (eqb rise z) (A7 rise (o .node)) (A6 rise (o .node) (rise - z)))))
       by-rise true q =
           let here : k .«old_head» .count .0 ≡ goal k o = omega (arith, eqb-true rise 0 q) in
-          (p, subst (λ (m : ℕ). At (g .chain) m (k .«old_head» .node)) here (i .head .oldHeadAt a there), refl)
+          (subst (λ (m : ℕ). At (g .chain) m (k .«old_head» .node)) here (i .head .oldHeadAt a there), refl)
       by-rise false q = from-old-head (ltb rise z) refl (eqb-false rise 0 q)
+
+  pub after-a5 : (p : Past s g a) → KnowsRun s g a (walkTo (requestOf s a) (p .old))
+  after-a5 p = let w = i .linked .oldTails a (p .old) (p .is) there in by-way (walkTo (requestOf s a) (p .old)) (arrives-at-the-goal (p .old) (w .0) (w .1))
+    where
+      by-way : (x : RunStep) → ArrivesAt g (requestOf s a) (p .old) x → KnowsRun s g a x
+      by-way (A6 rise x left) h = (p, h .0, h .1, h .2, h .3, h .4)
+      by-way (A7 rise x) h = (p, h .0, h .1)
+      by-way A1 h = absurd h
+      by-way (A2 l) h = absurd h
+      by-way (A3 l) h = absurd h
+      by-way (A4 l) h = absurd h
+      by-way (A5 o) h = absurd h
+      by-way (A8 l x) h = absurd h

@@ -30,7 +30,7 @@ use Rattle.thread.specs.declared.running.RunStep.{RunStep}
 use Rattle.thread.specs.declared.running.RunStep.the-variants.{A1, A2, A3, A4, A5, A6, A7, A8}
 use Rattle.thread.specs.Running.{runAccess, runAfter, afterA2, afterA3, afterA6, walkTo, back, runningAt}
 use Rattle.row.specs.declared.Row.{Row}
-use Rattle.order.specs.Links.{ifTaken}
+use Rattle.order.specs.Links.{ifNone}
 use Rattle.order.proofs.Ghost.{Ghost, Batch, joins, batchOf, noBatch, runGhost}
 use Rattle.order.proofs.Shared.{Shared, next, led, linked, withLinks, withHead, tailIf}
 use Rattle.order.proofs.Invariant.{Linked, NotLinked, FrontAt, Asks, Inv}
@@ -102,7 +102,7 @@ module _ (s : Shared) (g : Ghost) (i : Inv s g) (t : ℕ) (r : Row) (a : ℕ) (k
         }
 
   at-a3 : (l : Tail) → KnowsRun s g a (A3 l) → (v : Link) → cellAt (s .links) (l .node) .link ≡ v
-      → Fine s g t r (linkCas (memoryIn s) (l .node) (requestOf s a .first) v) (ifTaken v (joins g l (batchOf g a .nodes) (some a)) g)
+      → Fine s g t r (linkCas (memoryIn s) (l .node) (requestOf s a .first) v) (ifNone v (joins g l (batchOf g a .nodes) (some a)) g)
       (runningAt a k (afterA3 l (linkIn (linkCas (memoryIn s) (l .node) (requestOf s a .first) v .found)) (requestOf s a .first)))
   at-a3 l h None e = record {
     inv = join-inv s g i (batchOf g a .nodes) (requestOf s a .first) (some a) l (h .0) (ap led e) (batch-joins l h (ap led e));

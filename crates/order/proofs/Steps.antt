@@ -35,7 +35,7 @@ use Rattle.row.specs.declared.Row.{Row}
 use Rattle.row.specs.Row.{noRow}
 use Rattle.machine.specs.declared.Machine.{Machine}
 use Rattle.machine.specs.State.{rowAt}
-use Rattle.order.specs.Links.{ifTaken}
+use Rattle.order.specs.Links.{ifNone}
 use Rattle.order.proofs.Ghost.{Ghost, batchOf, joins, installs, stepGhost}
 use Rattle.order.proofs.Shared.{Shared, sharedOf}
 use Rattle.order.proofs.Invariant.{Inv}
@@ -74,7 +74,7 @@ module _ (s : Shared) (g : Ghost) (i : Inv s g) (t : ℕ) (r : Row) where
 
 -- what neither a link step nor an installed announcement changes, no step changes: the pending calls, and the batches
 module _ {A : Type 0} (f : Ghost → A) (m : Memory) (g : Ghost) (joined : (l : Tail) (nodes : List ℕ) (who : Option ℕ) → f (joins g l nodes who) ≡ f g) (installed : (b : ℕ) → f (installs g b) ≡ f g) where
-  if-taken : (v : Link) (l : Tail) (nodes : List ℕ) (who : Option ℕ) → f (ifTaken v (joins g l nodes who) g) ≡ f g
+  if-taken : (v : Link) (l : Tail) (nodes : List ℕ) (who : Option ℕ) → f (ifNone v (joins g l nodes who) g) ≡ f g
   if-taken None l nodes who = joined l nodes who
   if-taken (To n) l nodes who = refl
 

@@ -24,7 +24,7 @@ use Rattle.machine.specs.HandOut.{handOutNode}
 use Rattle.machine.specs.Steps.{stepOf, isMore}
 use Rattle.machine.specs.Entries.{deferEnqueue, deferDequeue, setOff, apply}
 
--- with the thread that does it
+-- with the thread that does it, and an item or a future
 pub data Event : Type 0 where
   -- a single Enqueue of an item, a single Dequeue
   EnqueueStarts : ℕ → ℕ → Event
@@ -57,6 +57,7 @@ unfoldable pub keptBeside : {A : Type 0} → (Machine → A → Event → A) →
 keptBeside f m a [] = a
 keptBeside f m a (x ∷ xs) = keptBeside f (does m x) (f m a x) xs
 
+-- (The remainders make it total: an accepted entry's thread is below 8, and a future that was handed out below 512.)
 -- the n steps of Run, which stops where its thread's call has ended
 unfoldable pub runEvents : ℕ → Machine → ℕ → List Event
 runEvents zero m i = []

@@ -6,3 +6,4 @@ pub mod PairingReads
 pub mod Fits
 pub mod Promises
 pub mod Order
+pub mod PlainQueue

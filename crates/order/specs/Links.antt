@@ -1,4 +1,4 @@
--- The machine's own links: the node that is linked behind a node, where there is one; the nodes along them; and when a CAS of one is taken.
+-- The machine's own links: the node that is linked behind a node, where there is one; the nodes along them; and what depends on a link.
 use Prim.Native.Nat.{ℕ}
 use mathlib.Core.List.{List}
 use mathlib.Core.Option.{Option, none, some}
@@ -20,7 +20,7 @@ next links n = led (cellAt links n .link)
 abbrev pub nodesFrom : List Cell → ℕ → ℕ → List ℕ
 nodesFrom links first n = following (next links) n (some first)
 
--- a CAS of a link is taken where the link is none
-abbrev pub ifTaken : {A : Type 0} → Link → A → A → A
-ifTaken None taken not = taken
-ifTaken (To x) taken not = not
+-- by whether a link is none: a CAS of it is taken then, and a read of it finds none
+abbrev pub ifNone : {A : Type 0} → Link → A → A → A
+ifNone None then else = then
+ifNone (To x) then else = else

@@ -1,15 +1,11 @@
--- The order of effect: 01, "Contents and order of effect", over the events (Events.antt), and what is promised of it.
--- A call takes its place by the steps taken alone: which step, and whether its CAS was taken or its read found none. Nothing here looks at what
--- the queue holds, nor at the results.
-use Prim.Native.Nat.{ℕ, suc, _%_, _<_, _≤_}
-use mathlib.Core.Path.{_≡_}
+-- The order of effect: 01, "Contents and order of effect", over the events (Events.antt). PlainQueue.antt has what is promised of it.
+use Prim.Native.Nat.{ℕ, suc, _%_}
 use mathlib.Core.Bool.{cond}
 use mathlib.Core.List.{List, [], _∷_, _++_, map}
 use mathlib.Core.Option.{Option, none, some}
 use lib.Dec.{eqb, ltb}
 use lib.ListN.{getD, set, replicate}
-use Rattle.chain.specs.Positions.{At, In}
-use Rattle.tally.specs.Fifo.{Call, enqueue, dequeue, Result, ok, item, empty, left, results}
+use Rattle.tally.specs.Fifo.{Call, enqueue, dequeue, Result, ok, item, empty, left}
 use Rattle.tally.specs.Excess.{enqueues}
 use Rattle.memory.specs.declared.Head.the-variants.{Plain}
 use Rattle.memory.specs.Ends.{sameHead}
@@ -32,12 +28,8 @@ use Rattle.call.specs.Next.{nextFuture}
 use Rattle.machine.specs.declared.Machine.{Machine}
 use Rattle.machine.specs.State.{rowAt, memoryOf, noFuture}
 use Rattle.machine.specs.Steps.{stepOf, isMore}
-use Rattle.machine.specs.Contents as machine
-use Rattle.machine.specs.Entries.{apply}
-use Rattle.order.specs.Links.{ifTaken}
-use Rattle.order.specs.Reached.{after}
-use Rattle.order.specs.Events.{Event, EnqueueStarts, DequeueStarts, EnqueueDeferred, DequeueDeferred, BatchSetOff, FutureAsked, StepTaken, afterEvents, keptBeside, events}
-use Rattle.order.specs.Outcomes.{outcomeOf}
+use Rattle.order.specs.Links.{ifNone}
+use Rattle.order.specs.Events.{Event, EnqueueStarts, DequeueStarts, EnqueueDeferred, DequeueDeferred, BatchSetOff, FutureAsked, StepTaken, keptBeside, events}
 
 -- A call that was started: a single one, which has no future, or a batch's calls in calling order, each with its future. Times are told by the
 -- number of events before; began is the time of the event that started it. What is asked is the future whose result the call's end will give.
@@ -53,11 +45,12 @@ pub record Effect : Type 0 where
   pub call : Called
   pub place : ℕ
 
--- a result that was given: by the end of a call of thread's that began then, or for a future
+-- a result that was given: to which thread, for which future where the call has one, and when the call began that it ends. Evaluate of a future that
+-- is done ends no call.
 pub record Given : Type 0 where
   pub thread : ℕ
   pub future : Option ℕ
-  pub began : ℕ
+  pub began : Option ℕ
   pub result : Result ℕ
   pub time : ℕ
 
@@ -73,7 +66,9 @@ pub record Story : Type 0 where
   pub order : List Effect
   pub given : List Given
   pub threads : List Remembered
-  -- the call of each announcement, by its number
+  -- every call that was started
+  pub started : List Called
+  -- the call of each announcement, by its number: they are handed out in number order
   pub announced : List Called
 
 abbrev pub noCalled : Called
@@ -82,10 +77,12 @@ noCalled = record { thread = 0; calls = []; futures = []; asked = none; began = 
 abbrev pub nothingRemembered : Remembered
 nothingRemembered = record { calls = []; futures = []; called = noCalled; lastRead = 0 }
 
+-- what is remembered of thread i
 abbrev pub of : Story → ℕ → Remembered
 of s i = getD (s .threads) i nothingRemembered
 
--- THE ORDER.
+-- THE ORDER. A call takes its place by the steps taken alone: which step, and whether its CAS was taken or its read found none. Nothing in this part
+-- looks at what the queue holds, nor at results.
 -- A batch of dequeues only is put in at the place of its last q2 read: before what took effect later.
 unfoldable pub putIn : Effect → List Effect → List Effect
 putIn x [] = x ∷ []
@@ -98,7 +95,7 @@ nowLast s i = s .order ++ (record { call = of s i .called; place = s .clock } �
 -- enqueue: when e2 is taken
 abbrev pub enqueueOrder : Memory → Story → ℕ → EnqueueStep → List Effect
 enqueueOrder m s i E1 = s .order
-enqueueOrder m s i (E2 t) = ifTaken (cellAt (m .links) (t .node) .link) (nowLast s i) (s .order)
+enqueueOrder m s i (E2 t) = ifNone (cellAt (m .links) (t .node) .link) (nowLast s i) (s .order)
 enqueueOrder m s i (E3 t) = s .order
 enqueueOrder m s i (E4 t x) = s .order
 enqueueOrder m s i (E5 t x) = s .order
@@ -106,24 +103,24 @@ enqueueOrder m s i (E5 t x) = s .order
 -- dequeue: when d3 is taken, or at the d2 that finds none
 abbrev pub dequeueOrder : Memory → Story → ℕ → DequeueStep → List Effect
 dequeueOrder m s i D1 = s .order
-dequeueOrder m s i (D2 f) = ifTaken (cellAt (m .links) (f .node) .link) (nowLast s i) (s .order)
+dequeueOrder m s i (D2 f) = ifNone (cellAt (m .links) (f .node) .link) (nowLast s i) (s .order)
 dequeueOrder m s i (D3 f x) = cond (sameHead (m .ends .head) (Plain f)) (nowLast s i) (s .order)
 
 -- batch of dequeues only: once it has passed q3, or found nothing, at the place of its last q2 read
-abbrev pub readLast : Story → ℕ → ℕ → List Effect
-readLast s i time = putIn (record { call = of s i .called; place = time }) (s .order)
+abbrev pub putInAt : Story → ℕ → ℕ → List Effect
+putInAt s i time = putIn (record { call = of s i .called; place = time }) (s .order)
 
 abbrev pub dequeuesOrder : Memory → Story → ℕ → DequeuesStep → List Effect
 dequeuesOrder m s i Q1 = s .order
-dequeuesOrder m s i (Q2 w) = ifTaken (cellAt (m .links) (w .at) .link) (cond (eqb (w .taken) 0) (readLast s i (s .clock)) (s .order)) (s .order)
-dequeuesOrder m s i (Q3 w) = cond (sameHead (m .ends .head) (Plain (w .front))) (readLast s i (of s i .lastRead)) (s .order)
+dequeuesOrder m s i (Q2 w) = ifNone (cellAt (m .links) (w .at) .link) (cond (eqb (w .taken) 0) (putInAt s i (s .clock)) (s .order)) (s .order)
+dequeuesOrder m s i (Q3 w) = cond (sameHead (m .ends .head) (Plain (w .front))) (putInAt s i (of s i .lastRead)) (s .order)
 
 -- batch with an enqueue: when a3 is taken, by any thread
 abbrev pub runOrder : Memory → Story → ℕ → RunStep → List Effect
 runOrder m s a A1 = s .order
 runOrder m s a (A2 t) = s .order
 runOrder m s a (A3 t) =
-    ifTaken (cellAt (m .links) (t .node) .link) (s .order ++ (record { call = getD (s .announced) a noCalled; place = s .clock } ∷ [])) (s .order)
+    ifNone (cellAt (m .links) (t .node) .link) (s .order ++ (record { call = getD (s .announced) a noCalled; place = s .clock } ∷ [])) (s .order)
 runOrder m s a (A4 t) = s .order
 runOrder m s a (A5 o) = s .order
 runOrder m s a (A6 rise x left) = s .order
@@ -164,7 +161,7 @@ resultsIn answer.Started = []
 resultsIn (answer.Future f) = []
 resultsIn (answer.Refused r) = []
 
-abbrev pub gives : ℕ → Option ℕ → ℕ → ℕ → Answer → List Given
+abbrev pub gives : ℕ → Option ℕ → Option ℕ → ℕ → Answer → List Given
 gives i f began now a = map (λ r. record { thread = i; future = f; began = began; result = r; time = now }) (resultsIn a)
 
 abbrev pub starts : Story → ℕ → Called → Story
@@ -173,6 +170,7 @@ starts s i c = record {
   order = s .order;
   given = s .given;
   threads = set (s .threads) i (record { calls = of s i .calls; futures = of s i .futures; called = c; lastRead = of s i .lastRead });
+  started = s .started ++ (c ∷ []);
   announced = s .announced;
 }
 
@@ -182,6 +180,7 @@ defers s i c f = record {
   order = s .order;
   given = s .given;
   threads = set (s .threads) i (record { calls = of s i .calls ++ (c ∷ []); futures = of s i .futures ++ (f ∷ []); called = of s i .called; lastRead = of s i .lastRead });
+  started = s .started;
   announced = s .announced;
 }
 
@@ -192,6 +191,7 @@ alsoAnnounced s c = record {
   order = s .order;
   given = s .given;
   threads = s .threads;
+  started = s .started;
   announced = cond (eqb (enqueues (c .calls)) 0) (s .announced) (s .announced ++ (c ∷ []));
 }
 
@@ -206,13 +206,14 @@ abbrev pub stepTaken : Machine → Story → ℕ → Story
 stepTaken m s i = record {
   clock = suc (s .clock);
   order = stepOrder (memoryOf m) s i (rowAt m i .place);
-  given = s .given ++ gives i (of s i .called .asked) (of s i .called .began) (s .clock) (stepOf m i .answer);
+  given = s .given ++ gives i (of s i .called .asked) (some (of s i .called .began)) (s .clock) (stepOf m i .answer);
   threads = set (s .threads) i (record {
     calls = cond (isMore (stepOf m i .answer)) (of s i .calls) [];
     futures = cond (isMore (stepOf m i .answer)) (of s i .futures) [];
     called = of s i .called;
     lastRead = lastReadAt (s .clock) (of s i .lastRead) (rowAt m i .place);
   });
+  started = s .started;
   announced = s .announced;
 }
 
@@ -220,8 +221,9 @@ abbrev pub asks : Machine → Story → ℕ → ℕ → Story
 asks m s i f = record {
   clock = suc (s .clock);
   order = s .order;
-  given = s .given ++ gives i (some f) (s .clock) (s .clock) (answered (getD (m .futures) (f % 512) noFuture .outcome));
+  given = s .given ++ gives i (some f) none (s .clock) (answered (getD (m .futures) (f % 512) noFuture .outcome));
   threads = s .threads;
+  started = s .started;
   announced = s .announced;
 }
 
@@ -235,60 +237,7 @@ happens m s (FutureAsked i f) = asks m s i f
 happens m s (StepTaken i) = stepTaken m s i
 
 abbrev pub freshStory : Story
-freshStory = record { clock = 0; order = []; given = []; threads = replicate 8 nothingRemembered; announced = [] }
+freshStory = record { clock = 0; order = []; given = []; threads = replicate 8 nothingRemembered; started = []; announced = [] }
 
 abbrev pub storyOf : Machine → List Entry → Story
 storyOf m es = keptBeside happens m freshStory (events m es)
-
--- RUN SINGLY. Each call of the order, and each of a batch's calls in turn, on a plain first-in first-out list: its results, and what is left.
-pub record Ran : Type 0 where
-  pub effect : Effect
-  pub results : List (Result ℕ)
-
-unfoldable pub ran : List Effect → List ℕ → List Ran
-ran [] q = []
-ran (x ∷ xs) q = record { effect = x; results = results (x .call .calls) q } ∷ ran xs (left (x .call .calls) q)
-
-unfoldable pub leaves : List Effect → List ℕ → List ℕ
-leaves [] q = q
-leaves (x ∷ xs) q = leaves xs (left (x .call .calls) q)
-
--- THE PROMISES, of a machine m and the story so far.
--- A result r of thread i, given at a time: of the single call that began then, or of a future's call, it is the one that the run gives.
-abbrev pub ResultIn : Ran → Given → Option ℕ → Type 0
-ResultIn x g none = (x .effect .call .futures ≡ []) × (x .effect .call .began ≡ g .began) × (x .results ≡ g .result ∷ [])
-ResultIn x g (some f) = (j : ℕ) × At (x .effect .call .futures) j f × At (x .results) j (g .result)
-
--- the call stands in the order, no later than its result
-pub record Stands (order : List Effect) (g : Given) : Type 0 where
-  pub row : Ran
-  pub there : In (ran order []) row
-  pub thread : row .effect .call .thread ≡ g .thread
-  pub before : row .effect .place ≤ g .time
-  pub result : ResultIn row g (g .future)
-
-pub record Linear (m : Machine) (s : Story) : Type 0 where
-  -- run singly, the calls leave the present contents
-  pub contents : leaves (s .order) [] ≡ machine.contents m
-  -- every result given, and every one that a done future holds, is that of the run
-  pub given : (j : ℕ) (g : Given) → At (s .given) j g → Stands (s .order) g
-  pub done : (f : ℕ) (r : Result ℕ) → f < m .used .futures → getD (m .futures) (f % 512) noFuture .outcome ≡ outcomeOf r
-      → Stands (s .order) (record { thread = getD (m .futures) (f % 512) noFuture .owner; future = some f; began = 0; result = r; time = s .clock })
-  -- each call stands no earlier than it began; places rise along the order
-  pub began : (j : ℕ) (x : Effect) → At (s .order) j x → x .call .began ≤ x .place
-  pub rising : (j k : ℕ) (x y : Effect) → At (s .order) j x → At (s .order) k y → j < k → x .place < y .place
-  -- each call stands there once: no call of a thread that began at one time twice, no future's call twice
-  pub once : (j k : ℕ) (x y : Effect) → At (s .order) j x → At (s .order) k y → x .call .thread ≡ y .call .thread → x .call .began ≡ y .call .began → j ≡ k
-  pub onceEach : (j k a b f : ℕ) (x y : Effect) → At (s .order) j x → At (s .order) k y → At (x .call .futures) a f → At (y .call .futures) b f → (j ≡ k) × (a ≡ b)
-
--- the results among the answers to a list of entries
-unfoldable pub resultsTold : Machine → List Entry → List (Result ℕ)
-resultsTold m [] = []
-resultsTold m (e ∷ es) = resultsIn (apply m e .answer) ++ resultsTold (apply m e .machine) es
-
--- Of a machine m and any list of entries: its events leave the machine that the entries leave, the story has the results that the entries told, in
--- their order, and the promises hold. proofs/Ordered.antt has the theorem, calls-take-effect-in-order.
-pub record InOrder (m : Machine) (es : List Entry) : Type 0 where
-  pub reached : after m es ≡ afterEvents m (events m es)
-  pub told : resultsTold m es ≡ map (λ g. g .result) (storyOf m es .given)
-  pub linear : Linear (after m es) (storyOf m es)

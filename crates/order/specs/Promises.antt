@@ -34,7 +34,7 @@ use Rattle.machine.specs.declared.Machine.{Machine}
 use Rattle.machine.specs.State.{rowAt, memoryOf}
 use Rattle.machine.specs.Steps.{hop}
 use Rattle.machine.specs.Contents.{walked, leadsTo, abstractHead, chainAfter}
-use Rattle.order.specs.Links.{next, nodesFrom, ifTaken}
+use Rattle.order.specs.Links.{next, nodesFrom, ifNone}
 use Rattle.order.specs.Events.{Event, EnqueueStarts, DequeueStarts, EnqueueDeferred, DequeueDeferred, BatchSetOff, FutureAsked, StepTaken, keptBeside, events}
 use Rattle.order.specs.Fits.{Fits}
 use Rattle.order.specs.PairingReads.{AllStayOn, turnsAfter}
@@ -46,7 +46,7 @@ batchNodes m k = nodesFrom (m .links) (k .first) (k .tally .enqueues)
 
 abbrev pub enqueueLinks : Memory → ℕ → EnqueueStep → List (List ℕ)
 enqueueLinks m n E1 = []
-enqueueLinks m n (E2 t) = ifTaken (cellAt (m .links) (t .node) .link) ((n ∷ []) ∷ []) []
+enqueueLinks m n (E2 t) = ifNone (cellAt (m .links) (t .node) .link) ((n ∷ []) ∷ []) []
 enqueueLinks m n (E3 t) = []
 enqueueLinks m n (E4 t x) = []
 enqueueLinks m n (E5 t x) = []
@@ -54,7 +54,7 @@ enqueueLinks m n (E5 t x) = []
 abbrev pub runLinks : Memory → ℕ → RunStep → List (List ℕ)
 runLinks m a A1 = []
 runLinks m a (A2 t) = []
-runLinks m a (A3 t) = ifTaken (cellAt (m .links) (t .node) .link) (batchNodes m (announcementAt (m .announcements) a .request) ∷ []) []
+runLinks m a (A3 t) = ifNone (cellAt (m .links) (t .node) .link) (batchNodes m (announcementAt (m .announcements) a .request) ∷ []) []
 runLinks m a (A4 t) = []
 runLinks m a (A5 o) = []
 runLinks m a (A6 rise x left) = []
