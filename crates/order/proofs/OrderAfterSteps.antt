@@ -1,7 +1,7 @@
 -- Every step keeps the invariant of the order and what the threads know of it, to the step's end.
 use Prim.Native.Nat.{ℕ, _<_}
 use mathlib.Core.Path.{_≡_, refl, sym, ap, _∙_, subst}
-use mathlib.Core.Bool.{Bool, cond}
+use mathlib.Core.Bool.{Bool}
 use mathlib.Core.List.{List, [], append-nil}
 use mathlib.Core.Logic.{_≢_}
 use native.Mathlib.Omega.{arith}
@@ -31,7 +31,7 @@ use Rattle.order.proofs.Reached.{Holds}
 use Rattle.order.proofs.Orderly.{Orderly, KnowsOf, Onward}
 use Rattle.order.proofs.OrderStays.{knows-of-stays}
 use Rattle.order.proofs.Futured.{Futured, OrderAfter}
-use Rattle.order.proofs.FuturesKept.{Puts, row-here, row-elsewhere, remembered-here, remembered-elsewhere}
+use Rattle.order.proofs.FuturesKept.{Puts, row-here, row-elsewhere, remembered-here, remembered-elsewhere, rememberedAfter}
 use Rattle.order.proofs.FuturesSteps.{step-futured}
 use Rattle.order.proofs.OrderFine.{stepStory, KnowsOfAfter, OrderFine, of-own}
 use Rattle.order.proofs.OrderSteps.{step-order}
@@ -116,12 +116,7 @@ module _ (m : Machine) (g : Ghost) (s : Story) (holds : Holds m g) (orderly : Or
   rowAfter (afterwards.PairDequeues from taken) = cleared (rowAt m₁ i)
 
   abbrev remembers : Bool → Remembered
-  remembers more = record {
-    calls = cond more (of s i .calls) [];
-    futures = cond more (of s i .futures) [];
-    called = of s i .called;
-    lastRead = lastReadAt (s .clock) (of s i .lastRead) (rowAt m i .place);
-  }
+  remembers more = rememberedAfter m s i more
 
   row-put : (a : After) → hop m i .after ≡ a → tell m₁ i 1 a .machine .rows ≡ set (m .rows) i (rowAfter a)
   unfolding hop settled pairing
