@@ -71,9 +71,6 @@ module _ (s : Shared) (g : Ghost) (i : Inv s g) (t b : ℕ) (new : NotAnnounced 
   pub laid-last : requestOf (laid s b f) b .last ≡ requestOf s b .last
   laid-last = ap (λ (x : Announcement). x .request .last) laid-is
 
-  pub laid-tally : requestOf (laid s b f) b .tally ≡ requestOf s b .tally
-  laid-tally = ap (λ (x : Announcement). x .request .tally) laid-is
-
   asks-still : (a : ℕ) (c : Batch) → At (g .batches) a c → Asks (announcementAt (laid s b f .announcements) a) c
   asks-still a c h =
       elim (ℕ-discrete a b) [

@@ -119,9 +119,9 @@ module _ (m : Machine) (g : Ghost) (s : Story) (i : ℕ) (r : Row) (here : Here 
         })
 
   -- the other steps
-  waiting-on : (x : Memory) (y : EnqueueStep) → WaitsSingle s i (enqueue v) → Onward m g s (withMemory m x) g (stepStory s i (s .order) read) i
+  waiting-on : (x : Memory) → WaitsSingle s i (enqueue v) → Onward m g s (withMemory m x) g (stepStory s i (s .order) read) i
       → WaitsSingle (stepStory s i (s .order) read) i (enqueue v)
-  waiting-on x y w on = waits-single-stay m g s (here .inv) (withMemory m x) g (stepStory s i (s .order) read) i on _ w
+  waiting-on x w on = waits-single-stay m g s (here .inv) (withMemory m x) g (stepStory s i (s .order) read) i on _ w
 
   e2-order : (l : Tail) (x : Link) → WaitsSingle s i (enqueue v)
       → Inv (inMemory (sharedOf m) (linkCas (memoryOf m) (l .node) n x .memory)) (ifNone x (joins g l (n ∷ []) none) g)
@@ -129,14 +129,14 @@ module _ (m : Machine) (g : Ghost) (s : Story) (i : ℕ) (r : Row) (here : Here 
       → OrderFine m g s i r (withMemory m (linkCas (memoryOf m) (l .node) n x .memory)) (ifNone x (joins g l (n ∷ []) none) g)
       (stepStory s i (ifNone x (nowLast s i) (s .order)) read) (afterE2 n l (linkIn (linkCas (memoryOf m) (l .node) n x .found)))
   e2-order l None w inv′ grows = e2-taken l w inv′ grows
-  e2-order l (To y) w inv′ grows = only-reads m g s i r here _ (waiting-on (memoryOf m) (E4 l y) w)
+  e2-order l (To y) w inv′ grows = only-reads m g s i r here _ (waiting-on (memoryOf m) w)
 
   e4-order : (l : Tail) (x : ℕ) → WaitsSingle s i (enqueue v) → (y : Head) → OrderFine m g s i r (withMemory m (memoryOf m)) g (stepStory s i (s .order) read) (afterE4 n l x y)
-  e4-order l x w (Plain f) = only-reads m g s i r here _ (waiting-on (memoryOf m) (E5 l x) w)
-  e4-order l x w (Announced a) = only-reads m g s i r here _ (waiting-on (memoryOf m) E1 w)
+  e4-order l x w (Plain f) = only-reads m g s i r here _ (waiting-on (memoryOf m) w)
+  e4-order l x w (Announced a) = only-reads m g s i r here _ (waiting-on (memoryOf m) w)
 
-  ended : (x : Memory) → Enqueued s i → SingleEnded s i (s .order) ok
-  ended x w = record { thread = w .thread; futures = w .futures; asked = w .asked; notAnnounced = w .notAnnounced; place = w .place; early = omega (arith, w .early); there = w .there }
+  ended : Enqueued s i → SingleEnded s i (s .order) ok
+  ended w = record { thread = w .thread; futures = w .futures; asked = w .asked; notAnnounced = w .notAnnounced; place = w .place; early = omega (arith, w .early); there = w .there }
 
   pub enqueue-order : (x : EnqueueStep) → KnowsOfEnqueue m s i n x
       → Inv (inMemory (sharedOf m) (perform (memoryOf m) (enqueueAccess n x) .memory)) (enqueueGhost (memoryOf m) g n x)
@@ -144,8 +144,8 @@ module _ (m : Machine) (g : Ghost) (s : Story) (i : ℕ) (r : Row) (here : Here 
       → OrderFine m g s i r (withMemory m (perform (memoryOf m) (enqueueAccess n x) .memory)) (enqueueGhost (memoryOf m) g n x)
       (stepStory s i (enqueueOrder (memoryOf m) s i x) read) (enqueueAfter n x (perform (memoryOf m) (enqueueAccess n x) .found))
   unfolding perform enqueueAccess enqueueAfter
-  enqueue-order E1 w inv′ grows = only-reads m g s i r here _ (waiting-on (memoryOf m) (E2 (m .ends .tail)) w)
+  enqueue-order E1 w inv′ grows = only-reads m g s i r here _ (waiting-on (memoryOf m) w)
   enqueue-order (E2 l) w inv′ grows = e2-order l (cellAt (m .links) (l .node) .link) w inv′ grows
-  enqueue-order (E3 l) w inv′ grows = moves-the-tail m g s i r here (pastTail l n 1) (sameTail (m .ends .tail) l) afterwards.Ok inv′ grows (λ on. ended (memoryOf m) w)
+  enqueue-order (E3 l) w inv′ grows = moves-the-tail m g s i r here (pastTail l n 1) (sameTail (m .ends .tail) l) afterwards.Ok inv′ grows (λ on. ended w)
   enqueue-order (E4 l x) w inv′ grows = e4-order l x w (m .ends .head)
-  enqueue-order (E5 l x) w inv′ grows = moves-the-tail m g s i r here (pastTail l x 1) (sameTail (m .ends .tail) l) (enqueueAt n E1) inv′ grows (waiting-on _ E1 w)
+  enqueue-order (E5 l x) w inv′ grows = moves-the-tail m g s i r here (pastTail l x 1) (sameTail (m .ends .tail) l) (enqueueAt n E1) inv′ grows (waiting-on _ w)

@@ -1,7 +1,7 @@
 -- Each pending call of a thread has a future that was handed out for it and is flagged as the call is, an enqueue or a dequeue. Futures are
 -- handed out in number order and paying one leaves its flag, so what other threads do leaves the flags of a thread's pending calls as they are.
 use Prim.Native.Nat.{ℕ, suc, _+_, _%_, _<_, _≤_}
-use mathlib.Core.Path.{_≡_, refl, sym, ap, _∙_, subst}
+use mathlib.Core.Path.{_≡_, sym, ap, _∙_, subst}
 use mathlib.Core.Bool.{Bool}
 use mathlib.Core.List.{List, [], _∷_, _++_}
 use mathlib.Core.Logic.{⊎-elim, _≢_}
@@ -42,9 +42,6 @@ pub record Carries (fs : List Future) (used : ℕ) (fs′ : List Future) (used�
   pub same : (k : ℕ) → k < used → getD fs′ (k % 512) noFuture .enqueue ≡ getD fs (k % 512) noFuture .enqueue
   pub long : length fs′ ≡ length fs
   pub room : used ≤ 512 → used′ ≤ 512
-
-nothing-handed-out : {fs : List Future} {used : ℕ} → Carries fs used fs used
-nothing-handed-out = record { more = omega arith; same = λ k h. refl; long = refl; room = λ h. h }
 
 carried : {fs fs′ : List Future} {used used′ : ℕ} {pending : List ℕ} {cs : List (Call ℕ)} → Carries fs used fs′ used′ → FlagsOf fs used pending cs → FlagsOf fs′ used′ pending cs
 carried c h = record {

@@ -165,19 +165,6 @@ module _ (s : Shared) (g : Ghost) (i : Inv s g) (t m x : ℕ) (own : Mine g t m)
     };
   }
 
-  pub own-link-grows : Grows s g (linkedTo s m x) g
-  own-link-grows = record {
-    chain = λ k n h. h;
-    ends = λ j p h. h;
-    by = λ j x h. h;
-    newBatch = λ a p h. inl h;
-    installed = λ a h. h;
-    batches = λ a b h. h;
-    tailUp = omega arith;
-    request = λ a h. refl;
-    oldTail = λ a o h e. e;
-  }
-
   pub own-link-spares : (u : ℕ) → u ≢ t → Spares s g (linkedTo s m x) g u
   own-link-spares u ne = record {
     mine = λ n h. h;

@@ -131,9 +131,6 @@ module _ (old new : List Effect) (x : Effect) (only : OnlyEnqueues new) where
   unfolding takenIn
   taken-put-in = omega (arith, taken-then old (x ∷ new) [], taken-by-enqueues new (left (x .call .calls) (leaves old [])) only)
 
-  pub taken-without : takenIn (old ++ new) [] ≡ takenIn old []
-  taken-without = omega (arith, taken-then old new [], taken-by-enqueues new (leaves old []) only)
-
   abbrev rest : List Ran
   rest = ran new (left (x .call .calls) (leaves old []))
 

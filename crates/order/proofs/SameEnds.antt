@@ -41,10 +41,6 @@ front-of-parts a b p q = λ k. record { node = p k; count = record { 0 = q k } }
 pub same-front-is-it : (a b : Front) → sameFront a b ≡ true → a ≡ b
 same-front-is-it a b e = let s = both-equal (a .node) (b .node) (a .count .0) (b .count .0) e in front-of-parts a b (s .0) (s .1)
 
-pub it-is-the-same-front : (a b : Front) → a ≡ b → sameFront a b ≡ true
-it-is-the-same-front a b e =
-    both-tests-true (a .node) (b .node) (a .count .0) (b .count .0) (ap (λ (f : Front). f .node) e) (ap (λ (f : Front). f .count .0) e)
-
 -- heads
 pub same-head-is-plain : (h : Head) (f : Front) → sameHead h (Plain f) ≡ true → h ≡ Plain f
 same-head-is-plain (Plain x) f e = ap Plain (same-front-is-it x f e)

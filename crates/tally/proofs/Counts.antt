@@ -61,9 +61,6 @@ module _ {A : Type 0} where
   pub successful-is : (cs : List (Call A)) (q : List A) → successfulOn (tallyOf cs) (length q) ≡ successful (results cs q)
   successful-is cs q = omega (arith, corollary-5-5 cs q, failing-and-successful cs q)
 
-  pub successful-le-dequeues : (cs : List (Call A)) (z : ℕ) → successfulOn (tallyOf cs) z ≤ dequeues cs
-  successful-le-dequeues cs z = omega arith
-
   -- no more can be taken than waited before and came with the batch: why no walk of a batch runs off the end
   pub successful-le-present : (cs : List (Call A)) (z : ℕ) → successfulOn (tallyOf cs) z ≤ z + enqueues cs
   unfolding excess

@@ -1,32 +1,21 @@
--- Calls of one kind. Enqueues give the same results on any queue and leave it with their items behind; of dequeues as many succeed as there are
--- items, and what is behind those makes no difference to their results.
-use Prim.Native.Nat.{ℕ, suc, _+_, _-_, _≤_}
+-- Calls of one kind. Enqueues give the same results on any queue; of dequeues as many succeed as there are items, and what is behind those makes no
+-- difference to their results.
+use Prim.Native.Nat.{ℕ, suc, _+_, _≤_}
 use mathlib.Core.Path.{_≡_, refl, sym, ap, _∙_}
-use mathlib.Core.List.{List, [], _∷_, _++_, append-assoc, append-nil}
+use mathlib.Core.List.{List, [], _∷_, _++_}
 use mathlib.Core.Logic.{_⊎_, ⊎-elim}
 use native.Mathlib.Omega.{arith}
 use lib.ListN.{length, take}
 use lib.Seq.{take-all}
-use Rattle.tally.specs.Fifo.{Call, enqueue, dequeue, Result, ok, item, empty, after, result, left, results, failing, successful}
+use Rattle.tally.specs.Fifo.{Call, enqueue, dequeue, Result, ok, item, after, result, results, successful}
 use Rattle.tally.specs.Excess.{enqueued, enqueues, dequeues, excess}
 use Rattle.tally.specs.Tally.{tallyOf, successfulOn}
 use Rattle.tally.proofs.Counts.{excess-nil, excess-dequeue, failing-and-successful, successful-is, successful-le-present}
 
 module _ {A : Type 0} where
-  pub length-results : (cs : List (Call A)) (q : List A) → length (results cs q) ≡ length cs
-  unfolding results
-  length-results [] q = refl
-  length-results (c ∷ cs) q = ap suc (length-results cs (after c q))
-
   -- no more succeed than waited and came
   pub successful-le : (cs : List (Call A)) (q : List A) → successful (results cs q) ≤ length q + enqueues cs
   successful-le cs q = omega (arith, successful-is cs q, successful-le-present cs (length q))
-
-  pub left-enqueues : (cs : List (Call A)) (q : List A) → dequeues cs ≡ 0 → left cs q ≡ q ++ enqueued cs
-  unfolding left after dequeues enqueued
-  left-enqueues [] q e = sym (append-nil q)
-  left-enqueues (enqueue v ∷ cs) q e = left-enqueues cs (q ++ (v ∷ [])) e ∙ append-assoc q (v ∷ []) (enqueued cs)
-  left-enqueues (dequeue ∷ cs) q e = absurd (omega arith)
 
   pub results-enqueues : (cs : List (Call A)) (q r : List A) → dequeues cs ≡ 0 → results cs q ≡ results cs r
   unfolding results result after dequeues
