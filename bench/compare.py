@@ -9,7 +9,6 @@ each schedule that has one, which is saved as a .hex file. The second form runs 
 folder and compares them with the lines written there behind `->`.
 """
 
-import argparse
 import collections
 import glob
 import os
@@ -18,6 +17,7 @@ import sys
 import tempfile
 import time
 
+from command import command
 from kinds import KINDS, SECOND_OPERAND, schedule
 
 
@@ -180,12 +180,7 @@ def cases(options):
 
 
 def main():
-    here = os.path.dirname(os.path.abspath(__file__))
-    as_written = argparse.RawDescriptionHelpFormatter
-    parser = argparse.ArgumentParser(description=__doc__, formatter_class=as_written)
-    parser.add_argument("--bq", type=os.path.abspath, default=os.path.join(here, "../target/bin/bq"))
-    parser.add_argument("--twin", type=os.path.abspath, default=os.path.join(here, "twin/target/release/twin"))
-    parser.add_argument("--seed", type=int, default=1)
+    parser = command(__doc__)
     parser.add_argument("--count", type=int, default=2000)
     parser.add_argument("--kinds", default=",".join(KINDS))
     parser.add_argument("--save", default=".", help="the folder for schedules that differ")

@@ -7,7 +7,6 @@ The folder gets 300 schedules: 100 of 65,536 bytes, 100 contended ones and 100 o
 program lists them all, one process for each schedule; the total is taken five times and the median told.
 """
 
-import argparse
 import os
 import random
 import statistics
@@ -15,6 +14,7 @@ import subprocess
 import tempfile
 import time
 
+from command import command
 from kinds import COUNTED, NODES, THREADS, Draft, contend, schedule
 
 ROUNDS = 5
@@ -53,12 +53,7 @@ def list_all(program, paths, sink):
 
 
 def main():
-    here = os.path.dirname(os.path.abspath(__file__))
-    as_written = argparse.RawDescriptionHelpFormatter
-    parser = argparse.ArgumentParser(description=__doc__, formatter_class=as_written)
-    parser.add_argument("--bq", type=os.path.abspath, default=os.path.join(here, "../target/bin/bq"))
-    parser.add_argument("--twin", type=os.path.abspath, default=os.path.join(here, "twin/target/release/twin"))
-    parser.add_argument("--seed", type=int, default=1)
+    parser = command(__doc__)
     parser.add_argument("--folder", help="where the schedules stay; else they are thrown away")
     options = parser.parse_args()
     with tempfile.TemporaryDirectory() as passing:

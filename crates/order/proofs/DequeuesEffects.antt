@@ -35,7 +35,7 @@ use Rattle.row.specs.declared.Row.{Row}
 use Rattle.machine.specs.declared.Machine.{Machine}
 use Rattle.machine.specs.State.{memoryOf, withMemory}
 use Rattle.order.specs.Links.{led, next, ifNone}
-use Rattle.order.specs.Order.{Called, Effect, Story, Remembered, of, putIn, putInAt, readAt, dequeuesOrder}
+use Rattle.order.specs.Order.{Called, Effect, Story, Remembered, of, putIn, putInAt, readAt, dequeuesOrder, steppedOn}
 use Rattle.order.specs.PlainQueue.{ran, leaves}
 use Rattle.order.proofs.Ghost.{Ghost}
 use Rattle.order.proofs.Shared.{sharedOf, inMemory}
@@ -67,7 +67,7 @@ module _ (m : Machine) (g : Ghost) (s : Story) (i : ℕ) (r : Row) (here : Here 
   abbrev reread : Story
   reread = stepStory s i (s .order) (s .clock)
 
-  own : of reread i ≡ record { calls = of s i .calls; futures = of s i .futures; called = of s i .called; lastRead = s .clock }
+  own : of reread i ≡ steppedOn (of s i) true (s .clock)
   own = of-own s i (s .order) (s .clock) (here .room)
 
   still-waits : WaitsDequeues s i r → WaitsDequeues reread i r

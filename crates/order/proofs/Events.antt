@@ -14,7 +14,7 @@ use Rattle.refusal.specs.declared.Refusal.the-variants.{NotOwnFuture}
 use Rattle.tally.specs.Tally.{up}
 use Rattle.thread.specs.declared.Place.the-variants.{Idle}
 use Rattle.row.specs.declared.Row.{Row}
-use Rattle.row.specs.Row.{noRow, withEnqueue, withDequeue}
+use Rattle.row.specs.Row.{withEnqueue, withDequeue}
 use Rattle.call.specs.declared.answer.Future.{Future}
 use Rattle.call.specs.declared.answer.Outcome.{Outcome}
 use Rattle.call.specs.declared.answer.Outcome.the-variants as outcome
@@ -35,6 +35,7 @@ use Rattle.machine.specs.Entries.{decided, refusing, linkedBehind, deferEnqueue
 use Rattle.laws.proofs.HandedOut.{futures-in-order}
 use Rattle.order.specs.Events.{Event, EnqueueStarts, DequeueStarts, EnqueueDeferred, DequeueDeferred, BatchSetOff, FutureAsked, StepTaken, does, afterEvents, keptBeside, runEvents, enqueueEvents, dequeueEvents, evaluateOwnEvents, evaluateEvents, entryEvents, events}
 use Rattle.order.specs.Reached.{after}
+use Rattle.order.proofs.RowPut.{put-here}
 
 -- the machine's tables have their sizes
 pub record Sized (m : Machine) : Type 0 where
@@ -130,7 +131,7 @@ module _ (m : Machine) (sized : Sized m) (i : ℕ) (free : Free m i) (left : m .
       (futures : m′ .futures ≡ set (m .futures) (nextFuture (m .used)) (record { owner = i; enqueue = enqueue; outcome = Waiting }))
       (used : m′ .used .futures ≡ up (m .used .futures)) (same : row .place ≡ rowAt m i .place) where
     row-is : rowAt m′ i ≡ row
-    row-is = ap (λ (l : List Row). getD l i noRow) rows ∙ getD-set-same (m .rows) i row noRow (omega (arith, sized .rows, free .small))
+    row-is = put-here m m′ i row rows (sized .rows) (free .small)
 
     future-is : futureIn m′ (nextFuture (m .used)) ≡ record { owner = i; enqueue = enqueue; outcome = Waiting }
     future-is =

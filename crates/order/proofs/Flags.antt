@@ -15,12 +15,12 @@ use Rattle.chain.proofs.Positions.{within, there-or-at-the-end}
 use Rattle.tally.specs.Fifo.{Call, enqueue}
 use Rattle.tally.specs.Tally.{up}
 use Rattle.row.specs.declared.Row.{Row}
-use Rattle.row.specs.Row.{noRow}
 use Rattle.call.specs.declared.answer.Future.{Future}
 use Rattle.call.specs.Next.{nextFuture}
 use Rattle.machine.specs.declared.Machine.{Machine}
 use Rattle.machine.specs.State.{rowAt, noFuture}
 use Rattle.laws.proofs.HandedOut.{futures-in-order}
+use Rattle.order.proofs.RowPut.{put-here, put-elsewhere}
 use Rattle.order.proofs.Ghost.{Ghost, pendingOf}
 use Rattle.order.proofs.Steps.{Ok}
 use Rattle.order.proofs.PairingCounts.{isEnqueue, Flagged}
@@ -65,10 +65,10 @@ put-flags m g h rows i lt m′ g′ row put others carries mine asks = record {
     Here t = FlagsOf (m′ .futures) (m′ .used .futures) (rowAt m′ t .pending) (pendingOf g′ t)
 
     here-is : rowAt m′ i ≡ row
-    here-is = ap (λ (l : List Row). getD l i noRow) put ∙ getD-set-same (m .rows) i row noRow (omega (arith, rows))
+    here-is = put-here m m′ i row put rows lt
 
     elsewhere-is : (t : ℕ) → t ≢ i → rowAt m′ t ≡ rowAt m t
-    elsewhere-is t ne = ap (λ (l : List Row). getD l t noRow) put ∙ getD-set-other (m .rows) i t row noRow ne
+    elsewhere-is = put-elsewhere m m′ i row put
 
     here : Here i
     here = subst (λ (r : Row). FlagsOf (m′ .futures) (m′ .used .futures) (r .pending) (pendingOf g′ i)) (sym here-is) mine

@@ -34,7 +34,7 @@ use Rattle.machine.specs.declared.Machine.{Machine}
 use Rattle.machine.specs.State.{rowAt, freshMachine}
 use Rattle.machine.specs.Entries.{linkedBehind, deferEnqueue, deferDequeue}
 use Rattle.order.specs.Events.{Event, EnqueueStarts, DequeueStarts, EnqueueDeferred, DequeueDeferred, BatchSetOff, FutureAsked, StepTaken, does}
-use Rattle.order.specs.Order.{Called, Given, Remembered, Story, of, gives, defers, pendingBatch, single, happens, freshStory, nothingRemembered}
+use Rattle.order.specs.Order.{Called, Given, Remembered, Story, of, gives, defers, pendingBatch, single, happens, freshStory, nothingRemembered, nowIn, alsoPending}
 use Rattle.order.specs.PlainQueue.{Stands}
 use Rattle.order.specs.Outcomes.{outcomeOf}
 use Rattle.order.proofs.Events.{futureIn, OwnFuture, Free, Finds}
@@ -67,7 +67,7 @@ module _ (m : Machine) (g : Ghost) (s : Story) (i : ℕ) (idle : rowAt m i .plac
 
 module _ (m : Machine) (g : Ghost) (s : Story) (holds : Holds m g) (h : Futured m g s) (i : ℕ) (free : Free m i) where
   abbrev calledNow : Called → Remembered
-  calledNow c = record { calls = of s i .calls; futures = of s i .futures; called = c; lastRead = of s i .lastRead }
+  calledNow c = nowIn (of s i) c
 
   pub puts : (m′ : Machine) (s′ : Story) (row : Row) (r : Remembered) → m′ .rows ≡ set (m .rows) i row → s′ .threads ≡ set (s .threads) i r → Puts m s i m′ s′ row r
   puts m′ s′ row r put thread = record { small = free .small; rows = holds .ok .rows; threads = h .threads; putRow = put; putThread = thread }
@@ -119,12 +119,7 @@ module _ (m : Machine) (g : Ghost) (s : Story) (holds : Holds m g) (h : Futured 
 
   -- a call is deferred
   abbrev deferredNow : Call ℕ → Remembered
-  deferredNow c = record {
-    calls = of s i .calls ++ (c ∷ []);
-    futures = of s i .futures ++ (nextFuture (m .used) ∷ []);
-    called = of s i .called;
-    lastRead = of s i .lastRead;
-  }
+  deferredNow c = alsoPending (of s i) c (nextFuture (m .used))
 
   module _ (room : m .used .futures < 512) (few : rowAt m i .count < 32) where
     deferred-futured : (c : Call ℕ) (x : Future) → x .owner ≡ i → x .outcome ≡ Waiting → (m′ : Machine) (g′ : Ghost) (row : Row) → m′ .rows ≡ set (m .rows) i row

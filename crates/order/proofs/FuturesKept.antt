@@ -3,7 +3,6 @@
 -- are in go on; a future that is done stays so, and its result still stands, for those that took effect are run as before.
 use Prim.Native.Nat.{ℕ, _%_, _<_, _≤_}
 use mathlib.Core.Path.{_≡_, sym, ap, _∙_, subst}
-use mathlib.Core.Bool.{Bool, cond}
 use mathlib.Core.List.{List, []}
 use mathlib.Core.Logic.{_⊎_, inl, inr, ⊎-elim, _≢_}
 use native.Mathlib.Omega.{arith}
@@ -14,28 +13,19 @@ use Rattle.chain.specs.Positions.{At, In}
 use Rattle.tally.specs.Fifo.{Call, Result}
 use Rattle.thread.specs.declared.Place.the-variants.{Idle}
 use Rattle.row.specs.declared.Row.{Row}
-use Rattle.row.specs.Row.{noRow}
 use Rattle.call.specs.declared.answer.Future.{Future}
 use Rattle.call.specs.declared.answer.Outcome.the-variants.{Waiting}
 use Rattle.machine.specs.declared.Machine.{Machine}
 use Rattle.machine.specs.State.{rowAt, noFuture}
-use Rattle.order.specs.Order.{Called, Effect, Given, Remembered, Story, of, nothingRemembered, lastReadAt}
+use Rattle.order.specs.Order.{Called, Effect, Given, Remembered, Story, of, nothingRemembered}
 use Rattle.order.specs.PlainQueue.{Stands}
 use Rattle.order.specs.Outcomes.{outcomeOf}
+use Rattle.order.proofs.RowPut.{put-here, put-elsewhere}
 use Rattle.order.proofs.Events.{futureIn, OwnFuture}
 use Rattle.order.proofs.Ghost.{Ghost, pendingOf}
 use Rattle.order.proofs.Invariant.{NotLinked}
 use Rattle.order.proofs.Futured.{Held, PendingFutures, BatchInCall, futureGiven, Futured, OrderAfter}
 use Rattle.order.proofs.FuturesInOrder.{stands-on, run-as-before, once-each-after, owned-after}
-
--- what is remembered of thread i after a step, where its call goes on or not
-abbrev pub rememberedAfter : Machine → Story → ℕ → Bool → Remembered
-rememberedAfter m s i more = record {
-  calls = cond more (of s i .calls) [];
-  futures = cond more (of s i .futures) [];
-  called = of s i .called;
-  lastRead = lastReadAt (s .clock) (of s i .lastRead) (rowAt m i .place);
-}
 
 -- thread i's row is put back, and what is remembered of it
 pub record Puts (m : Machine) (s : Story) (i : ℕ) (m′ : Machine) (s′ : Story) (row : Row) (r : Remembered) : Type 0 where
@@ -47,10 +37,10 @@ pub record Puts (m : Machine) (s : Story) (i : ℕ) (m′ : Machine) (s′ : Sto
 
 module _ {m : Machine} {s : Story} {i : ℕ} {m′ : Machine} {s′ : Story} {row : Row} {r : Remembered} (p : Puts m s i m′ s′ row r) where
   pub row-here : rowAt m′ i ≡ row
-  row-here = ap (λ (l : List Row). getD l i noRow) (p .putRow) ∙ getD-set-same (m .rows) i row noRow (omega (arith, p .rows, p .small))
+  row-here = put-here m m′ i row (p .putRow) (p .rows) (p .small)
 
   pub row-elsewhere : (u : ℕ) → u ≢ i → rowAt m′ u ≡ rowAt m u
-  row-elsewhere u ne = ap (λ (l : List Row). getD l u noRow) (p .putRow) ∙ getD-set-other (m .rows) i u row noRow ne
+  row-elsewhere = put-elsewhere m m′ i row (p .putRow)
 
   pub remembered-here : of s′ i ≡ r
   remembered-here =

@@ -29,7 +29,7 @@ use Rattle.machine.specs.declared.Machine.{Machine}
 use Rattle.machine.specs.State.{rowAt, memoryOf}
 use Rattle.machine.specs.Pairing.{pairing, settled}
 use Rattle.machine.specs.Steps.{hop, tell, stepOf, isMore}
-use Rattle.order.specs.Order.{Called, Effect, Given, Remembered, Story, of, gives, stepOrder, stepTaken}
+use Rattle.order.specs.Order.{Called, Effect, Given, Remembered, Story, of, gives, stepOrder, stepTaken, steppedOn, lastReadAt}
 use Rattle.order.specs.PlainQueue.{Stands}
 use Rattle.order.proofs.Events.{futureIn}
 use Rattle.order.proofs.Ghost.{Ghost, stepGhost, endGhost, defers, stepOfGhost}
@@ -40,7 +40,7 @@ use Rattle.order.proofs.MachineSteps.{grows₁, knows₁}
 use Rattle.order.proofs.Reached.{Holds}
 use Rattle.order.proofs.InCall.{stays-in-call}
 use Rattle.order.proofs.Futured.{BatchInCall, Futured, OrderAfter, NoneGoing, SingleEnds, BatchEnds, EndsWith}
-use Rattle.order.proofs.FuturesKept.{Puts, in-call-here, FuturesLeft, Tells, nothing-paid, still-futured, rememberedAfter}
+use Rattle.order.proofs.FuturesKept.{Puts, in-call-here, FuturesLeft, Tells, nothing-paid, still-futured}
 use Rattle.order.proofs.FuturesPaid.{paid-is-done, answer-stands, paid-left}
 
 -- the answer that gives an outcome ends the call
@@ -63,7 +63,7 @@ module _ (m : Machine) (g : Ghost) (s : Story) (holds : Holds m g) (h : Futured 
 
   -- the story with an answer, and what it remembers of the thread where its call goes on or not
   abbrev remembers : Bool → Remembered
-  remembers more = rememberedAfter m s i more
+  remembers more = steppedOn (of s i) more (lastReadAt (s .clock) (of s i .lastRead) (rowAt m i .place))
 
   abbrev gave : Answer → List Given
   gave a = gives i (of s i .called .asked) (some (of s i .called .began)) (s .clock) a

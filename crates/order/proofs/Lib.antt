@@ -1,4 +1,5 @@
 pub mod OrderCases
+pub mod RowPut
 pub mod Ghost
 pub mod Shared
 pub mod Invariant

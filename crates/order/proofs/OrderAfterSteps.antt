@@ -22,7 +22,7 @@ use Rattle.machine.specs.declared.Machine.{Machine}
 use Rattle.machine.specs.State.{rowAt, memoryOf, withMemory}
 use Rattle.machine.specs.Pairing.{pairing, settled}
 use Rattle.machine.specs.Steps.{accessed, hop, tell, stepOf, isMore}
-use Rattle.order.specs.Order.{Effect, Remembered, Story, of, stepOrder, lastReadAt, stepTaken}
+use Rattle.order.specs.Order.{Effect, Remembered, Story, of, stepOrder, lastReadAt, stepTaken, steppedOn}
 use Rattle.order.proofs.Ghost.{Ghost, stepGhost, endGhost, stepOfGhost}
 use Rattle.order.proofs.Shared.{sharedOf}
 use Rattle.order.proofs.Fine.{Fine, KnowsAfter}
@@ -31,8 +31,9 @@ use Rattle.order.proofs.Reached.{Holds}
 use Rattle.order.proofs.Orderly.{Orderly, KnowsOf, Onward}
 use Rattle.order.proofs.OrderStays.{knows-of-stays}
 use Rattle.order.proofs.Futured.{Futured, OrderAfter}
-use Rattle.order.proofs.FuturesKept.{Puts, row-here, row-elsewhere, remembered-here, remembered-elsewhere, rememberedAfter}
+use Rattle.order.proofs.FuturesKept.{Puts, row-here, row-elsewhere, remembered-here, remembered-elsewhere}
 use Rattle.order.proofs.FuturesSteps.{step-futured}
+use Rattle.order.proofs.OrderQuiet.{KnowsAll}
 use Rattle.order.proofs.OrderFine.{stepStory, KnowsOfAfter, OrderFine, of-own}
 use Rattle.order.proofs.OrderSteps.{step-order}
 use Rattle.order.proofs.OrderBeside.{orderly-beside, onward-beside, knows-of-row}
@@ -54,7 +55,7 @@ onward-still m g s u = record {
 }
 
 module _ (m : Machine) (g : Ghost) (s : Story) (holds : Holds m g) (orderly : Orderly m g s) (futured : Futured m g s) (i : ℕ) (lt : i < 8)
-    (knows : (t : ℕ) → t < 8 → KnowsOf m g s t (rowAt m t) (rowAt m t .place)) where
+    (knows : KnowsAll m g s) where
   abbrev p : Place
   p = rowAt m i .place
 
@@ -116,7 +117,7 @@ module _ (m : Machine) (g : Ghost) (s : Story) (holds : Holds m g) (orderly : Or
   rowAfter (afterwards.PairDequeues from taken) = cleared (rowAt m₁ i)
 
   abbrev remembers : Bool → Remembered
-  remembers more = rememberedAfter m s i more
+  remembers more = steppedOn (of s i) more (lastReadAt (s .clock) (of s i .lastRead) (rowAt m i .place))
 
   row-put : (a : After) → hop m i .after ≡ a → tell m₁ i 1 a .machine .rows ≡ set (m .rows) i (rowAfter a)
   unfolding hop settled pairing
@@ -164,7 +165,7 @@ module _ (m : Machine) (g : Ghost) (s : Story) (holds : Holds m g) (orderly : Or
   pub step-orderly : Orderly (stepOf m i .machine) (stepOfGhost m g i) (stepTaken m s i)
   step-orderly = told-orderly (hop m i .after) refl
 
-  pub step-knows : (t : ℕ) → t < 8 → KnowsOf (stepOf m i .machine) (stepOfGhost m g i) (stepTaken m s i) t (rowAt (stepOf m i .machine) t) (rowAt (stepOf m i .machine) t .place)
+  pub step-knows : KnowsAll (stepOf m i .machine) (stepOfGhost m g i) (stepTaken m s i)
   step-knows t small =
       elim (ℕ-discrete t i) [
         | yes e ↦ subst (λ (u : ℕ). KnowsOf (stepOf m i .machine) (stepOfGhost m g i) s₂ u (rowAt (stepOf m i .machine) u) (rowAt (stepOf m i .machine) u .place)) (sym e) (own-knows (hop m i .after) refl)

@@ -20,7 +20,7 @@ use Rattle.call.specs.declared.answer.Item.{Item}
 use Rattle.machine.specs.declared.Machine.{Machine}
 use Rattle.machine.specs.State.{rowAt, memoryOf, withMemory}
 use Rattle.order.specs.Promises.{requestIn}
-use Rattle.order.specs.Order.{Called, Effect, Story, nothingRemembered, of}
+use Rattle.order.specs.Order.{Called, Effect, Story, nothingRemembered, of, steppedOn}
 use Rattle.order.specs.PlainQueue.{ran}
 use Rattle.order.proofs.Ghost.{Ghost}
 use Rattle.order.proofs.Shared.{sharedOf, inMemory}
@@ -40,7 +40,7 @@ stepStory s i order read = record {
   clock = suc (s .clock);
   order = order;
   given = s .given;
-  threads = set (s .threads) i (record { calls = of s i .calls; futures = of s i .futures; called = of s i .called; lastRead = read });
+  threads = set (s .threads) i (steppedOn (of s i) true read);
   started = s .started;
   announced = s .announced;
 }
@@ -95,7 +95,7 @@ module _ (s : Story) (i : ℕ) (order : List Effect) (read : ℕ) where
   pub of-other : (u : ℕ) → u ≢ i → of (stepStory s i order read) u ≡ of s u
   of-other u ne = getD-set-other (s .threads) i u _ nothingRemembered ne
 
-  pub of-own : i < length (s .threads) → of (stepStory s i order read) i ≡ record { calls = of s i .calls; futures = of s i .futures; called = of s i .called; lastRead = read }
+  pub of-own : i < length (s .threads) → of (stepStory s i order read) i ≡ steppedOn (of s i) true read
   of-own lt = getD-set-same (s .threads) i _ nothingRemembered lt
 
 -- A step by which nothing takes effect and the abstract head stays.
@@ -128,7 +128,7 @@ module _ (m : Machine) (g : Ghost) (s : Story) (inv : Inv (sharedOf m) g) (h : O
 
   -- the thread itself may rely on it too, unless it has read at q2
   pub quiet-own : read ≡ of s i .lastRead → Onward m g s m′ g′ s′ i
-  quiet-own e = onward-as i (of-own s i (s .order) read lt ∙ ap (λ (n : ℕ). record { calls = of s i .calls; futures = of s i .futures; called = of s i .called; lastRead = n }) e)
+  quiet-own e = onward-as i (of-own s i (s .order) read lt ∙ ap (steppedOn (of s i) true) e)
 
   pub quiet-step : (r : Row) (a : After) → KnowsOfAfter m′ g′ s s′ i r a → OrderFine m g s i r m′ g′ s′ a
   quiet-step r a k = record { orderly = quiet-orderly; onward = λ u ne. onward-as u (of-other s i (s .order) read u ne); effect = inl refl; knows = k }

@@ -13,7 +13,7 @@ use Rattle.chain.specs.Positions.{at, At, In}
 use Rattle.row.specs.declared.Row.{Row}
 use Rattle.machine.specs.declared.Machine.{Machine}
 use Rattle.machine.specs.State.{rowAt}
-use Rattle.order.specs.Order.{Called, Effect, Remembered, Story, of, starts, nothingRemembered}
+use Rattle.order.specs.Order.{Called, Effect, Remembered, Story, of, starts, nothingRemembered, nowIn}
 use Rattle.order.specs.PlainQueue.{ran}
 use Rattle.order.proofs.Events.{Free}
 use Rattle.order.proofs.Ghost.{Ghost}
@@ -107,7 +107,7 @@ module _ (m : Machine) (g : Ghost) (s : Story) (holds : Holds m g) (h : Orderly 
 
 -- what is remembered of thread i when its call c starts
 abbrev pub remembers : Story → ℕ → Called → Remembered
-remembers s i c = record { calls = of s i .calls; futures = of s i .futures; called = c; lastRead = of s i .lastRead }
+remembers s i c = nowIn (of s i) c
 
 pub remembered-is : (s : Story) (i : ℕ) (c : Called) → i < length (s .threads) → of (starts s i c) i ≡ remembers s i c
 remembered-is s i c lt = getD-set-same (s .threads) i (remembers s i c) nothingRemembered lt

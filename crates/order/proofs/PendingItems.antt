@@ -38,6 +38,7 @@ use Rattle.machine.specs.Steps.{hop, tell, stepOf, requestOf}
 use Rattle.machine.specs.Entries.{linkedBehind, deferEnqueue, deferDequeue}
 use Rattle.order.specs.Links.{nodesFrom}
 use Rattle.order.specs.Events.{Event, EnqueueStarts, DequeueStarts, EnqueueDeferred, DequeueDeferred, BatchSetOff, FutureAsked, StepTaken, does}
+use Rattle.order.proofs.RowPut.{put-here, put-elsewhere}
 use Rattle.order.proofs.Events.{Finds}
 use Rattle.order.proofs.Ghost.{Ghost, pendingOf, pendingNodes, owns, stepGhost, defers, endGhost, stepOfGhost, ghostDoes, freshGhost}
 use Rattle.order.proofs.Shared.{Shared, sharedOf, next}
@@ -109,10 +110,10 @@ module _ (m : Machine) (g : Ghost) (ok : Ok m g) (h : PendingItems m g) (i : ℕ
       Here t = rowAt m′ t .place ≡ Idle → HoldItems m′ (pendingOf g′ t) (rowAt m′ t)
 
       here-is : rowAt m′ i ≡ row
-      here-is = ap (λ (l : List Row). getD l i noRow) put ∙ getD-set-same (m .rows) i row noRow (omega (arith, ok .rows))
+      here-is = put-here m m′ i row put (ok .rows) lt
 
       elsewhere-is : (t : ℕ) → t ≢ i → rowAt m′ t ≡ rowAt m t
-      elsewhere-is t ne = ap (λ (l : List Row). getD l t noRow) put ∙ getD-set-other (m .rows) i t row noRow ne
+      elsewhere-is = put-elsewhere m m′ i row put
 
       here : Here i
       here = subst (λ (r : Row). r .place ≡ Idle → HoldItems m′ (pendingOf g′ i) r) (sym here-is) mine

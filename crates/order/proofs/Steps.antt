@@ -4,10 +4,8 @@ use mathlib.Core.Path.{_≡_, refl, sym, ap, _∙_, subst}
 use mathlib.Core.List.{List, [], _∷_}
 use mathlib.Core.Option.{Option, none, some}
 use mathlib.Core.Logic.{_≢_}
-use native.Mathlib.Omega.{arith}
 use native.Mathlib.Decide.{ℕ-discrete}
 use lib.ListN.{length, getD, set, length-set}
-use lib.Seq.{getD-set-same, getD-set-other}
 use Rattle.chain.specs.Positions.{at}
 use Rattle.chain.proofs.Positions.{none-is-not-some}
 use Rattle.tally.specs.Excess.{enqueued}
@@ -32,10 +30,10 @@ use Rattle.thread.specs.declared.batch.BatchStep.the-variants.{B1, B2}
 use Rattle.thread.specs.declared.running.RunStep.the-variants.{A1, A2, A3, A4, A5, A6, A7, A8}
 use Rattle.thread.specs.Place.{announcementRun, access, after}
 use Rattle.row.specs.declared.Row.{Row}
-use Rattle.row.specs.Row.{noRow}
 use Rattle.machine.specs.declared.Machine.{Machine}
 use Rattle.machine.specs.State.{rowAt}
 use Rattle.order.specs.Links.{ifNone}
+use Rattle.order.proofs.RowPut.{put-here, put-elsewhere}
 use Rattle.order.proofs.Ghost.{Ghost, batchOf, joins, installs, stepGhost}
 use Rattle.order.proofs.Shared.{Shared, sharedOf}
 use Rattle.order.proofs.Invariant.{Inv}
@@ -121,12 +119,12 @@ module _ (m : Machine) (g : Ghost) (ok : Ok m g) (i : ℕ) (lt : i < 8) where
     where
       own : (u : ℕ) → u ≡ i → Knows (sharedOf m′) g′ u (rowAt m′ u)
       own u e =
-          let here : rowAt m′ i ≡ row = ap (λ (l : List Row). getD l i noRow) rows ∙ getD-set-same (m .rows) i row noRow (omega (arith, ok .rows)) in
+          let here : rowAt m′ i ≡ row = put-here m m′ i row rows (ok .rows) lt in
           subst (λ (v : ℕ). Knows (sharedOf m′) g′ v (rowAt m′ v)) (sym e) (subst (Knows (sharedOf m′) g′ i) (sym here) knows)
 
       other : (u : ℕ) → u ≢ i → u < 8 → Knows (sharedOf m′) g′ u (rowAt m′ u)
       other u ne h =
-          let there : rowAt m′ u ≡ rowAt m u = ap (λ (l : List Row). getD l u noRow) rows ∙ getD-set-other (m .rows) i u row noRow ne in
+          let there : rowAt m′ u ≡ rowAt m u = put-elsewhere m m′ i row rows u ne in
           subst (Knows (sharedOf m′) g′ u) (sym there) (knows-stays grows (spares u ne) (rowAt m u) (ok .knows u h))
 
   -- the same where what is shared is known as s′

@@ -57,7 +57,6 @@ unfoldable pub keptBeside : {A : Type 0} → (Machine → A → Event → A) →
 keptBeside f m a [] = a
 keptBeside f m a (x ∷ xs) = keptBeside f (does m x) (f m a x) xs
 
--- (The remainders make it total: an accepted entry's thread is below 8, and a future that was handed out below 512.)
 -- the n steps of Run, which stops where its thread's call has ended
 unfoldable pub runEvents : ℕ → Machine → ℕ → List Event
 runEvents zero m i = []
@@ -88,6 +87,7 @@ callEvents m t n accepted = whereAccepted (callVerdict t (m .threads) (rowAt m (
 abbrev pub stepEvents : Machine → ℕ → ℕ → List Event
 stepEvents m t n = whereAccepted (steppable t (m .threads) (rowAt m (t % 8) .place)) (runEvents n m (t % 8)) []
 
+-- The remainders make it total: an accepted entry's thread is below 8, and a future that was handed out below 512.
 unfoldable pub entryEvents : Machine → Entry → List Event
 entryEvents m (entry.Enqueue t v) = callEvents m t (enqueueNeeds (rowAt m (t % 8))) (enqueueEvents m (t % 8) v)
 entryEvents m (entry.Dequeue t) = callEvents m t (dequeueNeeds (rowAt m (t % 8))) (dequeueEvents m (t % 8))

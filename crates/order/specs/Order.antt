@@ -1,6 +1,6 @@
 -- The order of effect: 01, "Contents and order of effect", over the events (Events.antt). PlainQueue.antt has what is promised of it.
 use Prim.Native.Nat.{ℕ, suc, _%_}
-use mathlib.Core.Bool.{cond}
+use mathlib.Core.Bool.{Bool, cond}
 use mathlib.Core.List.{List, [], _∷_, _++_, map}
 use mathlib.Core.Option.{Option, none, some}
 use lib.Dec.{eqb, ltb}
@@ -164,12 +164,22 @@ resultsIn (answer.Refused r) = []
 abbrev pub gives : ℕ → Option ℕ → Option ℕ → ℕ → Answer → List Given
 gives i f began now a = map (λ r. record { thread = i; future = f; began = began; result = r; time = now }) (resultsIn a)
 
+-- with another call begun; with one more call pending; after a step, where nothing is pending once a call has ended
+abbrev pub nowIn : Remembered → Called → Remembered
+nowIn x c = record { calls = x .calls; futures = x .futures; called = c; lastRead = x .lastRead }
+
+abbrev pub alsoPending : Remembered → Call ℕ → ℕ → Remembered
+alsoPending x c f = record { calls = x .calls ++ (c ∷ []); futures = x .futures ++ (f ∷ []); called = x .called; lastRead = x .lastRead }
+
+abbrev pub steppedOn : Remembered → Bool → ℕ → Remembered
+steppedOn x more read = record { calls = cond more (x .calls) []; futures = cond more (x .futures) []; called = x .called; lastRead = read }
+
 abbrev pub starts : Story → ℕ → Called → Story
 starts s i c = record {
   clock = suc (s .clock);
   order = s .order;
   given = s .given;
-  threads = set (s .threads) i (record { calls = of s i .calls; futures = of s i .futures; called = c; lastRead = of s i .lastRead });
+  threads = set (s .threads) i (nowIn (of s i) c);
   started = s .started ++ (c ∷ []);
   announced = s .announced;
 }
@@ -179,7 +189,7 @@ defers s i c f = record {
   clock = suc (s .clock);
   order = s .order;
   given = s .given;
-  threads = set (s .threads) i (record { calls = of s i .calls ++ (c ∷ []); futures = of s i .futures ++ (f ∷ []); called = of s i .called; lastRead = of s i .lastRead });
+  threads = set (s .threads) i (alsoPending (of s i) c f);
   started = s .started;
   announced = s .announced;
 }
@@ -201,18 +211,12 @@ pendingBatch s i f = record { thread = i; calls = of s i .calls; futures = of s 
 abbrev pub single : Story → ℕ → Call ℕ → Called
 single s i c = record { thread = i; calls = c ∷ []; futures = []; asked = none; began = s .clock }
 
--- the step that ends a call clears the thread's pending calls
 abbrev pub stepTaken : Machine → Story → ℕ → Story
 stepTaken m s i = record {
   clock = suc (s .clock);
   order = stepOrder (memoryOf m) s i (rowAt m i .place);
   given = s .given ++ gives i (of s i .called .asked) (some (of s i .called .began)) (s .clock) (stepOf m i .answer);
-  threads = set (s .threads) i (record {
-    calls = cond (isMore (stepOf m i .answer)) (of s i .calls) [];
-    futures = cond (isMore (stepOf m i .answer)) (of s i .futures) [];
-    called = of s i .called;
-    lastRead = lastReadAt (s .clock) (of s i .lastRead) (rowAt m i .place);
-  });
+  threads = set (s .threads) i (steppedOn (of s i) (isMore (stepOf m i .answer)) (lastReadAt (s .clock) (of s i .lastRead) (rowAt m i .place)));
   started = s .started;
   announced = s .announced;
 }
