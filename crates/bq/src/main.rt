@@ -1,6 +1,6 @@
 // The listing program: reads a schedule from standard input and writes its listing to standard output, in
 // blocks. What is written is made by the crate listing; this is the reading and writing alone.
-use call::answer::Verdict;
+use answer::Verdict;
 use lent::Writing;
 use listing::Listing;
 use listing::Opened;

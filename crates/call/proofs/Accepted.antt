@@ -7,12 +7,12 @@ use lib.Dec.{leb, ltb}
 use borrow.Author.Tests.{leb-false, ltb-false}
 use Rattle.refusal.specs.declared.Refusal.{Refusal}
 use Rattle.refusal.specs.declared.Refusal.the-variants.{SetupOutOfRange}
-use Rattle.thread.specs.declared.Place.{Place}
-use Rattle.thread.specs.declared.Place.the-variants.{Idle, Enqueue, Dequeue, Batch, Dequeues, Running}
-use Rattle.thread.specs.Place.{idle}
+use Rattle.place.specs.declared.Place.{Place}
+use Rattle.place.specs.declared.Place.the-variants.{Idle, Enqueue, Dequeue, Batch, Dequeues, Running}
+use Rattle.place.specs.Place.{idle}
 use Rattle.row.specs.declared.Row.{Row}
-use Rattle.call.specs.declared.answer.Verdict.{Verdict}
-use Rattle.call.specs.declared.answer.Verdict.the-variants.{Accepted, Refused}
+use Rattle.answer.specs.declared.Verdict.{Verdict}
+use Rattle.answer.specs.declared.Verdict.the-variants.{Accepted, Refused}
 use Rattle.call.specs.declared.test.Used.{Used}
 use Rattle.call.specs.declared.test.Needs.{Needs}
 use Rattle.call.specs.Refusals.{first, callable, short, lacking, callVerdict, inRange}

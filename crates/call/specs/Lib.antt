@@ -1,4 +1,2 @@
-pub mod Answer
 pub mod Next
 pub mod Refusals
-pub mod Pairing

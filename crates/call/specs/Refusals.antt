@@ -3,11 +3,11 @@ use Prim.Native.Nat.{ℕ}
 use mathlib.Core.Bool.{Bool, true, false, not, cond, _&&_, _||_}
 use lib.Dec.{eqb, ltb, leb}
 use Rattle.refusal.specs.declared.Refusal.the-variants.{NoSuchThread, InCall, NotInCall, NoNode, NoFuture, NoPendingPlace, NoAnnouncement, SetupOutOfRange}
-use Rattle.thread.specs.declared.Place.{Place}
+use Rattle.place.specs.declared.Place.{Place}
 use Rattle.row.specs.declared.Row.{Row}
-use Rattle.thread.specs.Place.{idle}
-use Rattle.call.specs.declared.answer.Verdict.{Verdict}
-use Rattle.call.specs.declared.answer.Verdict.the-variants.{Accepted, Refused}
+use Rattle.place.specs.Place.{idle}
+use Rattle.answer.specs.declared.Verdict.{Verdict}
+use Rattle.answer.specs.declared.Verdict.the-variants.{Accepted, Refused}
 use Rattle.call.specs.declared.test.Used.{Used}
 use Rattle.call.specs.declared.test.Needs.{Needs}
 

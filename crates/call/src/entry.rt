@@ -1,7 +1,7 @@
 // The entries of 01, and the numbers that a set-up may have.
 ghost use mathlib.Core.Path.{_≡_};
 ghost use Rattle.call.specs.Refusals.{inRange};
-use crate::answer::Verdict;
+use answer::Verdict;
 use refusal::Refusal;
 
 // An entry with its operands, as 01's table has them.

@@ -1,6 +1,4 @@
-// What a call needs, and what it gives: the refusal table's tests, answers, and the pairing of one result.
-// All on small values; the machine gathers them, and puts back what is decided here.
-pub mod answer;
+// What a call needs: the entries, and the tests of 01's refusal table, on small values that the machine
+// gathers.
 pub mod entry;
-pub mod pairing;
 pub mod test;

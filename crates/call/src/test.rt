@@ -2,10 +2,10 @@
 ghost use mathlib.Core.Path.{_≡_};
 ghost use Rattle.call.specs.Next.{nextNode, nextFuture, nextAnnouncement};
 ghost use Rattle.call.specs.Refusals.{short, lacking, callable, steppable, foreign, callVerdict};
-use crate::answer::Verdict;
+use answer::Verdict;
+use place::Place;
 use refusal::Refusal;
 use row::Row;
-use thread::Place;
 
 // How many nodes, futures and announcements have been handed out.
 pub struct Used {

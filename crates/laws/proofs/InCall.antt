@@ -9,38 +9,39 @@ use lib.Dec.{eqb, ltb}
 use lib.ListN.{length, getD, set}
 use lib.Seq.{getD-set-same}
 use lib.ListN.{List·getD-eq-default}
-use Rattle.memory.specs.declared.Front.{Front}
-use Rattle.memory.specs.declared.Tail.{Tail}
-use Rattle.memory.specs.declared.Head.{Head}
-use Rattle.memory.specs.declared.Head.the-variants.{Plain, Announced}
-use Rattle.memory.specs.declared.Link.{Link}
-use Rattle.memory.specs.declared.Link.the-variants.{None, To}
-use Rattle.memory.specs.declared.Request.{Request}
-use Rattle.memory.specs.declared.Found.{Found}
-use Rattle.memory.specs.Found.{headIn, linkIn, takenIn}
-use Rattle.thread.specs.declared.Place.{Place}
-use Rattle.thread.specs.declared.Place.the-variants.{Idle, Enqueue, Dequeue, Batch, Dequeues, Running}
-use Rattle.thread.specs.declared.Resume.{Resume}
-use Rattle.thread.specs.declared.Resume.the-variants as resume
-use Rattle.thread.specs.declared.After.{After}
-use Rattle.thread.specs.declared.After.the-variants as afterwards
-use Rattle.thread.specs.declared.enqueue.EnqueueStep.{EnqueueStep}
-use Rattle.thread.specs.declared.enqueue.EnqueueStep.the-variants.{E1, E2, E3, E4, E5}
-use Rattle.thread.specs.declared.dequeue.DequeueStep.{DequeueStep}
-use Rattle.thread.specs.declared.dequeue.DequeueStep.the-variants.{D1, D2, D3}
-use Rattle.thread.specs.declared.batch.BatchStep.{BatchStep}
-use Rattle.thread.specs.declared.batch.BatchStep.the-variants.{B1, B2}
-use Rattle.thread.specs.declared.dequeues.Walk.{Walk}
-use Rattle.thread.specs.declared.dequeues.DequeuesStep.{DequeuesStep}
-use Rattle.thread.specs.declared.dequeues.DequeuesStep.the-variants.{Q1, Q2, Q3}
-use Rattle.thread.specs.declared.running.RunStep.{RunStep}
-use Rattle.thread.specs.declared.running.RunStep.the-variants.{A1, A2, A3, A4, A5, A6, A7, A8}
+use Rattle.cells.specs.declared.Front.{Front}
+use Rattle.cells.specs.declared.Tail.{Tail}
+use Rattle.cells.specs.declared.Head.{Head}
+use Rattle.cells.specs.declared.Head.the-variants.{Plain, Announced}
+use Rattle.cells.specs.declared.Link.{Link}
+use Rattle.cells.specs.declared.Link.the-variants.{None, To}
+use Rattle.cells.specs.declared.Request.{Request}
+use Rattle.cells.specs.declared.Found.{Found}
+use Rattle.cells.specs.Found.{headIn, linkIn, takenIn}
+use Rattle.place.specs.declared.Place.{Place}
+use Rattle.place.specs.declared.Place.the-variants.{Idle, Enqueue, Dequeue, Batch, Dequeues, Running}
+use Rattle.place.specs.declared.Resume.{Resume}
+use Rattle.place.specs.declared.Resume.the-variants as resume
+use Rattle.place.specs.declared.After.{After}
+use Rattle.place.specs.declared.After.the-variants as afterwards
+use Rattle.place.specs.declared.EnqueueStep.{EnqueueStep}
+use Rattle.place.specs.declared.EnqueueStep.the-variants.{E1, E2, E3, E4, E5}
+use Rattle.place.specs.declared.DequeueStep.{DequeueStep}
+use Rattle.place.specs.declared.DequeueStep.the-variants.{D1, D2, D3}
+use Rattle.place.specs.declared.BatchStep.{BatchStep}
+use Rattle.place.specs.declared.BatchStep.the-variants.{B1, B2}
+use Rattle.place.specs.declared.Walk.{Walk}
+use Rattle.place.specs.declared.DequeuesStep.{DequeuesStep}
+use Rattle.place.specs.declared.DequeuesStep.the-variants.{Q1, Q2, Q3}
+use Rattle.place.specs.declared.RunStep.{RunStep}
+use Rattle.place.specs.declared.RunStep.the-variants.{A1, A2, A3, A4, A5, A6, A7, A8}
 use Rattle.thread.specs.Enqueue.{enqueueAfter, afterE2, afterE4}
 use Rattle.thread.specs.Dequeue.{dequeueAfter, afterD1, afterD2, afterD3}
 use Rattle.thread.specs.Batch.{batchAfter, afterB1, afterB2}
 use Rattle.thread.specs.Dequeues.{dequeuesAfter, afterQ1, afterQ2, afterQ3, oneFurther, dequeuesAt}
-use Rattle.thread.specs.Running.{runAfter, back}
-use Rattle.thread.specs.Place.{idle, after, placeAfter, goesOn}
+use Rattle.running.specs.Running.{runAfter, back}
+use Rattle.place.specs.Place.{idle, placeAfter, goesOn}
+use Rattle.thread.specs.Calls.{after}
 use Rattle.row.specs.declared.Row.{Row}
 use Rattle.row.specs.Row.{noRow}
 use Rattle.machine.specs.declared.Machine.{Machine}

@@ -5,8 +5,8 @@ use mathlib.Core.Path.{_≡_, refl, sym, ap, _∙_, subst}
 use mathlib.Core.Logic.{_⊎_, inl, inr}
 use mathlib.Core.Bool.{Bool, true, false}
 use native.Mathlib.Omega.{arith}
-use Rattle.call.specs.declared.answer.Answer.{Answer}
-use Rattle.call.specs.declared.answer.Answer.the-variants.{More}
+use Rattle.answer.specs.declared.Answer.{Answer}
+use Rattle.answer.specs.declared.Answer.the-variants.{More}
 use Rattle.machine.specs.declared.Machine.{Machine}
 use Rattle.machine.specs.declared.Told.{Told}
 use Rattle.call.specs.declared.entry.Entry.the-variants.{Step, Run}
@@ -14,8 +14,8 @@ use Rattle.machine.specs.Steps.{hop, tell, stepOf, isMore, oneMore, advance}
 use Rattle.machine.specs.Pairing.{settled}
 use Rattle.machine.specs.Entries.{apply}
 use Rattle.laws.specs.Counted.{stepped}
-use Rattle.thread.specs.declared.After.{After}
-use Rattle.thread.specs.declared.After.the-variants as afterwards
+use Rattle.place.specs.declared.After.{After}
+use Rattle.place.specs.declared.After.the-variants as afterwards
 
 pub step-is-run-of-one : (m : Machine) (t : ℕ) → apply m (Step t) ≡ apply m (Run t 1)
 unfolding apply

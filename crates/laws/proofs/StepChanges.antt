@@ -6,15 +6,15 @@ use native.Mathlib.Omega.{arith}
 use lib.ListN.{length, getD, set}
 use lib.Seq.{getD-set-same, getD-set-other, set-out}
 use native.Mathlib.Decide.{decLt}
-use Rattle.call.specs.declared.answer.Item.{Item}
-use Rattle.call.specs.declared.answer.Future.{Future}
-use Rattle.call.specs.declared.pairing.Cursor.{Cursor}
-use Rattle.memory.specs.declared.Cell.{Cell}
-use Rattle.thread.specs.declared.After.{After}
-use Rattle.thread.specs.declared.After.the-variants as afterwards
+use Rattle.answer.specs.declared.Item.{Item}
+use Rattle.answer.specs.declared.Future.{Future}
+use Rattle.pairing.specs.declared.Cursor.{Cursor}
+use Rattle.cells.specs.declared.Cell.{Cell}
+use Rattle.place.specs.declared.After.{After}
+use Rattle.place.specs.declared.After.the-variants as afterwards
 use Rattle.row.specs.declared.Row.{Row}
 use Rattle.row.specs.Row.{noRow}
-use Rattle.thread.specs.Place.{access}
+use Rattle.thread.specs.Calls.{access}
 use Rattle.machine.specs.declared.Machine.{Machine}
 use Rattle.machine.specs.State.{memoryOf, rowAt, noFuture}
 use Rattle.machine.specs.Pairing.{pairFrom, pairing, settled}

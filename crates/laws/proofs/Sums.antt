@@ -6,24 +6,24 @@ use mathlib.Core.Bool.{Bool, true, false, cond}
 use native.Mathlib.Omega.{arith}
 use lib.Dec.{leb}
 use Rattle.refusal.specs.declared.Refusal.the-variants.{NoSuchThread, NotInCall}
-use Rattle.call.specs.declared.answer.Answer.the-variants.{More}
-use Rattle.call.specs.declared.answer.Verdict.{Verdict}
-use Rattle.call.specs.declared.answer.Verdict.the-variants.{Accepted, Refused}
+use Rattle.answer.specs.declared.Answer.the-variants.{More}
+use Rattle.answer.specs.declared.Verdict.{Verdict}
+use Rattle.answer.specs.declared.Verdict.the-variants.{Accepted, Refused}
 use Rattle.call.specs.Refusals.{steppable}
-use Rattle.thread.specs.declared.Place.{Place}
-use Rattle.thread.specs.declared.After.{After}
-use Rattle.thread.specs.declared.After.the-variants as afterwards
-use Rattle.thread.specs.Place.{idle, goesOn}
+use Rattle.place.specs.declared.Place.{Place}
+use Rattle.place.specs.declared.After.{After}
+use Rattle.place.specs.declared.After.the-variants as afterwards
+use Rattle.place.specs.Place.{idle, goesOn}
 use Rattle.machine.specs.declared.Machine.{Machine}
 use Rattle.machine.specs.State.{rowAt, noFuture}
 use Rattle.machine.specs.Pairing.{pairing, settled}
 use lib.ListN.{getD}
-use Rattle.call.specs.declared.answer.Outcome.{Outcome}
-use Rattle.call.specs.declared.answer.Outcome.the-variants as outcome
-use Rattle.call.specs.Answer.{answered}
-use Rattle.call.specs.declared.pairing.Cursor.{Cursor}
-use Rattle.call.specs.declared.pairing.Supply.the-variants.{Batch, Dequeues}
-use Rattle.memory.specs.declared.Link.the-variants.{To}
+use Rattle.answer.specs.declared.Outcome.{Outcome}
+use Rattle.answer.specs.declared.Outcome.the-variants as outcome
+use Rattle.answer.specs.Answer.{answered}
+use Rattle.pairing.specs.declared.Cursor.{Cursor}
+use Rattle.pairing.specs.declared.Supply.the-variants.{Batch, Dequeues}
+use Rattle.cells.specs.declared.Link.the-variants.{To}
 use Rattle.machine.specs.Steps.{hop, tell, stepOf, isMore, advance}
 use Rattle.machine.specs.Entries.{decided, run}
 use Rattle.laws.proofs.InCall.{hop-in-call}

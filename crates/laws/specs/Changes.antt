@@ -2,15 +2,15 @@
 use Prim.Native.Nat.{ℕ, _%_, _<_}
 use mathlib.Core.Path.{_≡_}
 use lib.ListN.{getD}
-use Rattle.memory.specs.declared.Tail.{Tail}
-use Rattle.memory.specs.declared.Head.{Head}
-use Rattle.memory.specs.declared.Link.{Link}
-use Rattle.memory.specs.declared.OldTail.{OldTail}
+use Rattle.cells.specs.declared.Tail.{Tail}
+use Rattle.cells.specs.declared.Head.{Head}
+use Rattle.cells.specs.declared.Link.{Link}
+use Rattle.cells.specs.declared.OldTail.{OldTail}
 use Rattle.memory.specs.declared.Access.{Access}
 use Rattle.memory.specs.declared.Access.the-variants.{ReadHead, ReadTail, ReadLink, ReadOldTail, CasLink, CasTail, CasHead, WriteOldTail, Announce}
 use Rattle.memory.specs.Memory.{Memory, withHead, withTail, withLink, withAnnouncement, announcementAt, laidOver}
 use Rattle.row.specs.declared.Row.{Row}
-use Rattle.thread.specs.Place.{access}
+use Rattle.thread.specs.Calls.{access}
 use Rattle.machine.specs.declared.Machine.{Machine}
 use Rattle.machine.specs.State.{memoryOf, rowAt, noFuture}
 use Rattle.machine.specs.Steps.{requestOf}

@@ -11,13 +11,13 @@ use Rattle.lent.specs.declared.Writing.{Writing}
 use Rattle.lent.specs.declared.Writing.the-variants.{Wrote, Refused}
 use Rattle.lent.specs.Lent.{writing, written}
 use Rattle.lent.proofs.Laws.{accepted-fits, accepted-changes-only-these, writing-fits}
-use Rattle.memory.specs.declared.Cell.{Cell}
-use Rattle.memory.specs.declared.Link.{Link}
-use Rattle.memory.specs.declared.Link.the-variants.{None, To}
+use Rattle.cells.specs.declared.Cell.{Cell}
+use Rattle.cells.specs.declared.Link.{Link}
+use Rattle.cells.specs.declared.Link.the-variants.{None, To}
 use Rattle.memory.specs.Memory.{cellAt}
-use Rattle.call.specs.Pairing.{nodeBehind}
+use Rattle.pairing.specs.Pairing.{nodeBehind}
 use Rattle.machine.specs.declared.Machine.{Machine}
-use Rattle.machine.specs.Contents.{abstractHead, chainAfter, ifLinked, contents}
+use Rattle.contents.specs.Contents.{abstractHead, chainAfter, ifLinked, contents}
 use Rattle.listing.specs.Text.{field, fields}
 
 fields-of-both : (a b : List ℕ) → fields (a ++ b) ≡ fields a ++ fields b

@@ -5,9 +5,9 @@ use native.Mathlib.Omega.{arith}
 use lib.ListN.{length, length-append}
 use Rattle.refusal.specs.declared.Refusal.{Refusal}
 use Rattle.refusal.specs.Numbers.{numberOf}
-use Rattle.call.specs.declared.answer.Answer.{Answer}
-use Rattle.call.specs.declared.answer.Answer.the-variants.{Started, Future, Ok, Item, Empty, More, Refused}
-use Rattle.call.specs.Answer.{value}
+use Rattle.answer.specs.declared.Answer.{Answer}
+use Rattle.answer.specs.declared.Answer.the-variants.{Started, Future, Ok, Item, Empty, More, Refused}
+use Rattle.answer.specs.Answer.{value}
 use Rattle.listing.specs.Text.{decimal, field, fields, wordField, lineEnd, entryText, setUpText, refusedText, queueText}
 use Rattle.listing.proofs.Decimals.{decimal-few}
 

@@ -4,3 +4,4 @@ pub mod Items
 pub mod Telling
 pub mod Blocks
 pub mod Whole
+pub mod Determined

@@ -9,13 +9,13 @@ use Rattle.refusal.specs.declared.Refusal.{Refusal}
 use Rattle.lent.specs.Lent.{writtenAt}
 use Rattle.lent.proofs.Laws.{nothing-written}
 use Rattle.call.specs.declared.entry.Entry.{Entry}
-use Rattle.call.specs.declared.answer.Answer.the-variants as answer
+use Rattle.answer.specs.declared.Answer.the-variants as answer
 use Rattle.schedule.specs.declared.read.EntryReading.{EntryReading}
 use Rattle.schedule.specs.declared.read.EntryReading.the-variants as entry
 use Rattle.schedule.specs.Read.{entryAt}
 use Rattle.machine.specs.declared.Told.{Told}
 use Rattle.machine.specs.Entries.{apply}
-use Rattle.machine.specs.Contents.{depth}
+use Rattle.contents.specs.Contents.{depth}
 use Rattle.listing.specs.declared.Listing.{Listing}
 use Rattle.listing.specs.declared.Lines.{Lines}
 use Rattle.listing.specs.Text.{entryText}

@@ -8,7 +8,7 @@ use native.Mathlib.Omega.{arith}
 use lib.ListN.{length, take, length-take}
 use Rattle.refusal.specs.declared.Refusal.{Refusal}
 use Rattle.call.specs.declared.entry.Entry.{Entry}
-use Rattle.call.specs.declared.answer.Verdict.the-variants.{Accepted, Refused}
+use Rattle.answer.specs.declared.Verdict.the-variants.{Accepted, Refused}
 use Rattle.schedule.specs.declared.read.SetUpReading.{SetUpReading}
 use Rattle.schedule.specs.declared.read.SetUpReading.the-variants as setup
 use Rattle.schedule.specs.declared.read.EntryReading.{EntryReading}
@@ -20,7 +20,7 @@ use Rattle.schedule.proofs.Endings.{bound-not-met}
 use Rattle.machine.specs.declared.Machine.{Machine}
 use Rattle.machine.specs.State.{freshMachine}
 use Rattle.machine.specs.Entries.{apply}
-use Rattle.machine.specs.Contents.{contents, depth}
+use Rattle.contents.specs.Contents.{contents, depth}
 use Rattle.listing.specs.declared.Listing.{Listing}
 use Rattle.listing.specs.Text.{queueText, setUpText}
 use Rattle.listing.specs.Listing.{entryLine, entryLines, afterSetUp, counted, listing}

@@ -3,7 +3,7 @@ use Prim.Native.Nat.{ℕ, _+_}
 use mathlib.Core.List.{List, [], _∷_, _++_}
 use lib.ListN.{take}
 use Rattle.call.specs.declared.entry.Entry.{Entry}
-use Rattle.call.specs.declared.answer.Answer.the-variants.{Refused}
+use Rattle.answer.specs.declared.Answer.the-variants.{Refused}
 use Rattle.schedule.specs.declared.read.SetUpReading.{SetUpReading}
 use Rattle.schedule.specs.declared.read.SetUpReading.the-variants as setup
 use Rattle.schedule.specs.Read.{setUpOf}
@@ -12,7 +12,7 @@ use Rattle.machine.specs.declared.Machine.{Machine}
 use Rattle.machine.specs.declared.Told.{Told}
 use Rattle.machine.specs.State.{freshMachine}
 use Rattle.machine.specs.Entries.{apply}
-use Rattle.machine.specs.Contents.{contents, depth}
+use Rattle.contents.specs.Contents.{contents, depth}
 use Rattle.listing.specs.Text.{entryText, setUpText, refusedText, queueText}
 
 -- the line of the entry at a place, which gave this

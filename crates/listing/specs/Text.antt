@@ -5,8 +5,8 @@ use mathlib.Core.List.{List, [], _∷_, _++_}
 use lib.Dec.{ltb}
 use Rattle.refusal.specs.declared.Refusal.{Refusal}
 use Rattle.refusal.specs.Numbers.{numberOf}
-use Rattle.call.specs.declared.answer.Answer.{Answer}
-use Rattle.call.specs.Answer.{word, value}
+use Rattle.answer.specs.declared.Answer.{Answer}
+use Rattle.answer.specs.Answer.{word, value}
 
 -- a number's decimal digits, the highest first, where k may stand before the last one
 unfoldable pub decimals : ℕ → ℕ → List ℕ

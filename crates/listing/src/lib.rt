@@ -9,8 +9,8 @@ ghost use lib.ListN.{length};
 ghost use Rattle.lent.specs.Lent.{writing, written, writtenAt};
 ghost use Rattle.listing.specs.Listing.{counted};
 ghost use Rattle.listing.specs.Pieces.{opened, firstLine, lastLine, beginning, stopped, refusedAt, entered, nextLine, lines, told};
-use call::answer::Answer;
-use call::answer::Verdict;
+use answer::Answer;
+use answer::Verdict;
 use call::entry::Entry;
 use lent::Writing;
 use machine::Machine;
@@ -180,7 +180,7 @@ impl Listing {
             self.place,
             Answer::Refused(refusal),
             0,
-            machine.depth(),
+            contents::depth(machine),
         );
         let listing = self.stopped();
         Lines {
@@ -198,7 +198,14 @@ impl Listing {
         let after = before.apply(entry);
         let machine = after.machine;
         let answer = after.answer;
-        let end = put::entry_line(out, at, self.place, answer, after.steps, machine.depth());
+        let end = put::entry_line(
+            out,
+            at,
+            self.place,
+            answer,
+            after.steps,
+            contents::depth(machine),
+        );
         let listing = Listing {
             machine,
             from: self.from + count,
@@ -218,7 +225,7 @@ impl Listing {
         let machine = self.machine;
         let mut items = [0u32; 512];
         let mut line = [0u8; Listing::QUEUE];
-        let writing = machine.contents(&mut items);
+        let writing = contents::write(machine, &mut items);
         match writing {
             Writing::Wrote { count } => {
                 let end = put::queue_line(&mut line, &items, count);

@@ -4,7 +4,7 @@ ghost use Prim.Native.Nat.{_+_, _*_, _≤_};
 ghost use lib.ListN.{length, take};
 ghost use Rattle.lent.specs.Lent.{writtenAt};
 ghost use Rattle.listing.specs.Text.{decimal, field, fields, wordField, entryText, setUpText, refusedText, queueText};
-use call::answer::Answer;
+use answer::Answer;
 use refusal::Refusal;
 
 fn text(out: &mut [u8], at: usize, text: &[u8]) -> usize

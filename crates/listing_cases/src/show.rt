@@ -1,6 +1,6 @@
 // Showing listings. A listing is told in blocks of as many lines as a small buffer has room for, so that a
 // longer one takes several.
-use call::answer::Verdict;
+use answer::Verdict;
 use lent::Writing;
 use listing::Listing;
 use listing::Opened;

@@ -8,10 +8,11 @@ use Rattle.memory.specs.declared.Hit.{Hit}
 use Rattle.memory.specs.Memory.{Performed, noCell, noAnnouncement}
 use Rattle.memory.specs.Reach.{nodeOf, announcementOf, on}
 use Rattle.memory.proofs.Performs.{performs}
-use Rattle.thread.specs.declared.Place.{Place}
-use Rattle.thread.specs.declared.After.{After}
+use Rattle.place.specs.declared.Place.{Place}
+use Rattle.place.specs.declared.After.{After}
 use Rattle.row.specs.declared.Row.{Row}
-use Rattle.thread.specs.Place.{announcementRun, access, after, placeAfter}
+use Rattle.place.specs.Place.{announcementRun, placeAfter}
+use Rattle.thread.specs.Calls.{access, after}
 use Rattle.row.specs.Row.{placed}
 use Rattle.machine.specs.declared.Machine.{Machine}
 use Rattle.machine.specs.State.{memoryOf, rowAt}

@@ -2,5 +2,4 @@ pub mod Hops
 pub mod Runs
 pub mod Starts
 pub mod Pairs
-pub mod Chains
-pub mod Heads
+pub mod Determined

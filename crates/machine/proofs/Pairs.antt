@@ -6,12 +6,12 @@ use mathlib.Core.List.{List}
 use native.Mathlib.Omega.{arith}
 use lib.ListN.{getD, set}
 use Rattle.memory.specs.Memory.{cellAt}
-use Rattle.call.specs.declared.answer.Item.{Item}
-use Rattle.call.specs.declared.answer.Future.{Future}
-use Rattle.call.specs.declared.pairing.Cursor.{Cursor}
-use Rattle.call.specs.declared.pairing.Paid.{Paid}
-use Rattle.call.specs.Pairing.{nodeBehind, nextOf, pay}
-use Rattle.memory.specs.declared.Cell.{Cell}
+use Rattle.answer.specs.declared.Item.{Item}
+use Rattle.answer.specs.declared.Future.{Future}
+use Rattle.pairing.specs.declared.Cursor.{Cursor}
+use Rattle.pairing.specs.declared.Paid.{Paid}
+use Rattle.pairing.specs.Pairing.{nodeBehind, nextOf, pay}
+use Rattle.cells.specs.declared.Cell.{Cell}
 use Rattle.machine.specs.declared.Machine.{Machine}
 use Rattle.machine.specs.State.{withFutures, noItem, noFuture}
 use Rattle.machine.specs.Pairing.{done, paidTo, pairFrom}

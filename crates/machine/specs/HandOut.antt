@@ -3,11 +3,11 @@ use Prim.Native.Nat.{ℕ}
 use mathlib.Core.Bool.{Bool}
 use lib.ListN.{set}
 use Rattle.tally.specs.Tally.{up}
-use Rattle.memory.specs.declared.OldTail.the-variants.{Unset}
-use Rattle.memory.specs.declared.Request.{Request}
+use Rattle.cells.specs.declared.OldTail.the-variants.{Unset}
+use Rattle.cells.specs.declared.Request.{Request}
 use Rattle.memory.specs.Memory.{noCell}
-use Rattle.call.specs.declared.answer.Item.{Item}
-use Rattle.call.specs.declared.answer.Outcome.the-variants.{Waiting}
+use Rattle.answer.specs.declared.Item.{Item}
+use Rattle.answer.specs.declared.Outcome.the-variants.{Waiting}
 use Rattle.call.specs.Next.{nextNode, nextFuture, nextAnnouncement}
 use Rattle.machine.specs.declared.Machine.{Machine}
 

@@ -3,4 +3,3 @@ pub mod HandOut
 pub mod Pairing
 pub mod Steps
 pub mod Entries
-pub mod Contents

@@ -2,20 +2,20 @@
 use Prim.Native.Nat.{ℕ, zero, suc, _+_, _%_}
 use mathlib.Core.List.{List}
 use lib.ListN.{getD, set}
-use Rattle.memory.specs.declared.Cell.{Cell}
+use Rattle.cells.specs.declared.Cell.{Cell}
 use Rattle.memory.specs.Memory.{cellAt}
 use Rattle.row.specs.Row.{cleared}
-use Rattle.call.specs.declared.answer.Item.{Item}
-use Rattle.call.specs.declared.answer.Outcome.{Outcome}
-use Rattle.call.specs.declared.answer.Outcome.the-variants as outcome
-use Rattle.call.specs.declared.answer.Future.{Future}
+use Rattle.answer.specs.declared.Item.{Item}
+use Rattle.answer.specs.declared.Outcome.{Outcome}
+use Rattle.answer.specs.declared.Outcome.the-variants as outcome
+use Rattle.answer.specs.declared.Future.{Future}
 use Rattle.machine.specs.declared.Told.{Told}
 use Rattle.machine.specs.declared.Machine.{Machine}
-use Rattle.call.specs.declared.pairing.Cursor.{Cursor}
-use Rattle.call.specs.declared.pairing.Paid.{Paid}
-use Rattle.call.specs.declared.pairing.Around.{Around}
-use Rattle.call.specs.Answer.{answered}
-use Rattle.call.specs.Pairing.{nodeBehind, nextOf, pay}
+use Rattle.pairing.specs.declared.Cursor.{Cursor}
+use Rattle.pairing.specs.declared.Paid.{Paid}
+use Rattle.pairing.specs.declared.Around.{Around}
+use Rattle.answer.specs.Answer.{answered}
+use Rattle.pairing.specs.Pairing.{nodeBehind, nextOf, pay}
 use Rattle.machine.specs.State.{rowAt, withRow, withFutures, noItem, noFuture}
 
 -- what a turn reads: links and items as they are, the batch's last node

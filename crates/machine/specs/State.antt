@@ -3,15 +3,16 @@ use Prim.Native.Nat.{ℕ}
 use mathlib.Core.Bool.{false}
 use mathlib.Core.List.{List}
 use lib.ListN.{getD, set, replicate}
-use Rattle.memory.specs.declared.Ends.{Ends}
-use Rattle.memory.specs.declared.Head.the-variants.{Plain}
-use Rattle.memory.specs.Memory.{Memory, noCell, noFront, noAnnouncement}
-use Rattle.memory.specs.Found.{noTail}
+use Rattle.cells.specs.declared.Ends.{Ends}
+use Rattle.cells.specs.declared.Head.the-variants.{Plain}
+use Rattle.memory.specs.Memory.{Memory, noCell, noAnnouncement}
+use Rattle.cells.specs.Ends.{noFront}
+use Rattle.cells.specs.Found.{noTail}
 use Rattle.row.specs.declared.Row.{Row}
 use Rattle.row.specs.Row.{freshRow, noRow}
-use Rattle.call.specs.declared.answer.Item.{Item}
-use Rattle.call.specs.declared.answer.Future.{Future}
-use Rattle.call.specs.declared.answer.Outcome.the-variants.{Waiting}
+use Rattle.answer.specs.declared.Item.{Item}
+use Rattle.answer.specs.declared.Future.{Future}
+use Rattle.answer.specs.declared.Outcome.the-variants.{Waiting}
 use Rattle.call.specs.Refusals.{inRange}
 use Rattle.machine.specs.declared.Machine.{Machine}
 use Rattle.machine.specs.declared.SetUp.{SetUp}

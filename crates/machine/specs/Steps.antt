@@ -2,21 +2,22 @@
 use Prim.Native.Nat.{ℕ, zero, suc, _%_}
 use mathlib.Core.Bool.{Bool, true, false, cond}
 use lib.ListN.{getD}
-use Rattle.memory.specs.declared.Link.the-variants.{To}
-use Rattle.memory.specs.declared.Request.{Request}
+use Rattle.cells.specs.declared.Link.the-variants.{To}
+use Rattle.cells.specs.declared.Request.{Request}
 use Rattle.memory.specs.Memory.{Performed, perform, noAnnouncement}
-use Rattle.thread.specs.declared.Place.the-variants.{Idle}
-use Rattle.thread.specs.declared.After.{After}
-use Rattle.thread.specs.declared.After.the-variants as afterwards
+use Rattle.place.specs.declared.Place.the-variants.{Idle}
+use Rattle.place.specs.declared.After.{After}
+use Rattle.place.specs.declared.After.the-variants as afterwards
 use Rattle.row.specs.declared.Row.{Row}
-use Rattle.thread.specs.Place.{announcementRun, access, after, placeAfter, goesOn}
+use Rattle.place.specs.Place.{announcementRun, placeAfter, goesOn}
+use Rattle.thread.specs.Calls.{access, after}
 use Rattle.row.specs.Row.{placed}
-use Rattle.call.specs.declared.answer.Answer.{Answer}
-use Rattle.call.specs.declared.answer.Answer.the-variants.{Ok, Item, Empty, More}
+use Rattle.answer.specs.declared.Answer.{Answer}
+use Rattle.answer.specs.declared.Answer.the-variants.{Ok, Item, Empty, More}
 use Rattle.machine.specs.declared.Told.{Told}
 use Rattle.machine.specs.declared.Machine.{Machine}
 use Rattle.machine.specs.declared.engine.Ran.{Ran}
-use Rattle.call.specs.declared.pairing.Supply.the-variants.{Batch, Dequeues}
+use Rattle.pairing.specs.declared.Supply.the-variants.{Batch, Dequeues}
 use Rattle.machine.specs.State.{memoryOf, withMemory, rowAt, withRow, noItem}
 use Rattle.machine.specs.Pairing.{settled}
 

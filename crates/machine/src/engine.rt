@@ -4,13 +4,13 @@ ghost use Prim.Native.Nat.{_<_};
 ghost use Rattle.machine.specs.Steps.{hops, tell, advance};
 use crate::Machine;
 use crate::Told;
-use call::answer::Answer;
-use call::pairing::Cursor;
-use call::pairing::Supply;
-use memory::Cell;
-use memory::Link;
-use thread::After;
-use thread::Place;
+use answer::Answer;
+use cells::Cell;
+use cells::Link;
+use pairing::Cursor;
+use pairing::Supply;
+use place::After;
+use place::Place;
 
 // The machine after some steps, how the last one went on, and how many there were.
 pub struct Ran {
@@ -54,7 +54,7 @@ impl Machine {
             let run = place.announcement();
             let announcement = self.announcements[run];
             let request = announcement.request;
-            let access = place.access(request);
+            let access = thread::access(place, request);
             let node = access.node();
             let other = access.announcement();
             let ends = self.ends;
@@ -69,7 +69,7 @@ impl Machine {
             self.ends = new_ends;
             self.links[node] = new_cell;
             self.announcements[other] = new_announcement;
-            let after = place.after(found, request, tally.dequeues);
+            let after = thread::after(place, found, request, tally.dequeues);
             let new_row = row.at(after.place());
             self.rows[at] = new_row;
             left -= 1;

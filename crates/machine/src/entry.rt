@@ -4,22 +4,22 @@ ghost use Prim.Native.Nat.{_<_, _%_};
 ghost use Rattle.machine.specs.Entries.{linkedBehind, deferEnqueue, deferDequeue, setOff, startEnqueue, startDequeue, evaluateOwn, evaluateWaiting, enqueue, dequeue, futureEnqueue, futureDequeue, evaluate, step, run, apply, refusing, telling};
 use crate::Machine;
 use crate::Told;
-use call::answer::Answer;
-use call::answer::Item;
-use call::answer::Outcome;
-use call::answer::Verdict;
+use answer::Answer;
+use answer::Item;
+use answer::Outcome;
+use answer::Verdict;
 use call::entry::Entry;
 use call::test::Needs;
 use call::test::Used;
-use memory::Cell;
-use memory::Link;
+use cells::Cell;
+use cells::Link;
+use place::BatchStep;
+use place::DequeueStep;
+use place::DequeuesStep;
+use place::EnqueueStep;
+use place::Place;
 use refusal::Refusal;
 use row::Row;
-use thread::Place;
-use thread::batch::BatchStep;
-use thread::dequeue::DequeueStep;
-use thread::dequeues::DequeuesStep;
-use thread::enqueue::EnqueueStep;
 
 // The machine as it was, with a refusal.
 fn refusing(machine: Machine, refusal: Refusal) -> Told

@@ -3,15 +3,15 @@
 ghost use mathlib.Core.Path.{_≡_};
 ghost use Rattle.machine.specs.HandOut.{handOutNode, handOutFuture, handOutAnnouncement};
 use crate::Machine;
-use call::answer::Future;
-use call::answer::Item;
-use call::answer::Outcome;
+use answer::Future;
+use answer::Item;
+use answer::Outcome;
 use call::test::Used;
-use memory::Announcement;
-use memory::Cell;
-use memory::Link;
-use memory::OldTail;
-use memory::Request;
+use cells::Announcement;
+use cells::Cell;
+use cells::Link;
+use cells::OldTail;
+use cells::Request;
 
 impl Machine {
     // The node holds the item and no link.

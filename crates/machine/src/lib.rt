@@ -4,33 +4,32 @@
 // Numbers that the machine holds are plain numbers, so the code stays defined for every machine: an index
 // is taken by its remainder, a count goes up with wrap and down to 0. No machine that entries reach from
 // fresh meets one of these.
-pub mod contents;
 pub mod engine;
 pub mod entry;
 pub mod hand_out;
-pub mod pairing;
+pub mod pair;
 
 ghost use mathlib.Core.Path.{_≡_};
 ghost use Rattle.machine.specs.State.{endsAtTheDummy, freshMachine, setUp, withRow};
 ghost use Prim.Native.Nat.{_<_};
 ghost use Rattle.memory.specs.Memory.{noAnnouncement};
-use call::answer::Answer;
-use call::answer::Future;
-use call::answer::Item;
-use call::answer::Outcome;
-use call::answer::Verdict;
+use answer::Answer;
+use answer::Future;
+use answer::Item;
+use answer::Outcome;
+use answer::Verdict;
 use call::test::Used;
-use memory::Announcement;
-use memory::Cell;
-use memory::DequeueCount;
-use memory::Ends;
-use memory::EnqueueCount;
-use memory::Front;
-use memory::Head;
-use memory::Link;
-use memory::OldTail;
-use memory::Request;
-use memory::Tail;
+use cells::Announcement;
+use cells::Cell;
+use cells::DequeueCount;
+use cells::Ends;
+use cells::EnqueueCount;
+use cells::Front;
+use cells::Head;
+use cells::Link;
+use cells::OldTail;
+use cells::Request;
+use cells::Tail;
 use row::Row;
 use tally::Tally;
 

@@ -4,7 +4,7 @@
 mod script;
 mod show;
 
-use call::answer::Verdict;
+use answer::Verdict;
 use call::entry::Entry;
 use machine::Machine;
 

@@ -2,18 +2,18 @@
 // `put` writes at a place of it and answers the place behind.
 ghost use Prim.Native.Nat.{_≤_};
 ghost use lib.ListN.{length};
-use call::answer::Answer;
+use answer::Answer;
 use call::entry::Entry;
 use lent::Writing;
 use machine::Machine;
 use machine::Told;
+use place::BatchStep;
+use place::DequeueStep;
+use place::DequeuesStep;
+use place::EnqueueStep;
+use place::Place;
+use place::RunStep;
 use refusal::Refusal;
-use thread::Place;
-use thread::batch::BatchStep;
-use thread::dequeue::DequeueStep;
-use thread::dequeues::DequeuesStep;
-use thread::enqueue::EnqueueStep;
-use thread::running::RunStep;
 
 // A line's room: 511 items take 11 bytes each at most, and what stands before them less than 100.
 const ROOM: usize = 6000;
@@ -64,7 +64,7 @@ fn put_machine(line: &mut [u8], at: usize, machine: Machine, thread: u32) -> usi
     requires { ⌜ at ≤ length (now line) ⌝ }
     ensures { λ r. ⌜ r ≤ length (now (line .exit)) ⌝ }
 {
-    let mut to = put_field(line, at, machine.depth());
+    let mut to = put_field(line, at, contents::depth(machine));
     to = put(line, to, b" ");
     to = put_next(line, to, machine, thread);
     to = put(line, to, b" |");
@@ -206,7 +206,7 @@ fn put_contents(line: &mut [u8], at: usize, machine: Machine) -> usize
     ensures { λ r. ⌜ r ≤ length (now (line .exit)) ⌝ }
 {
     let mut items = [0u32; 512];
-    match machine.contents(&mut items) {
+    match contents::write(machine, &mut items) {
         Writing::Wrote { count } => put_items(line, at, &items, count),
         Writing::Refused { refusal: _ } => put(line, at, b" no room"),
     }

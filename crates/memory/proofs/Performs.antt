@@ -3,16 +3,16 @@ use Prim.Native.Nat.{ℕ}
 use mathlib.Core.Path.{_≡_}
 use mathlib.Core.Bool.{Bool, true, false}
 use lib.Seq.{set-getD}
-use Rattle.memory.specs.declared.Tail.{Tail}
-use Rattle.memory.specs.declared.Front.{Front}
-use Rattle.memory.specs.declared.Head.{Head}
-use Rattle.memory.specs.declared.Head.the-variants.{Plain, Announced}
-use Rattle.memory.specs.declared.Link.{Link}
-use Rattle.memory.specs.declared.Link.the-variants.{None, To}
+use Rattle.cells.specs.declared.Tail.{Tail}
+use Rattle.cells.specs.declared.Front.{Front}
+use Rattle.cells.specs.declared.Head.{Head}
+use Rattle.cells.specs.declared.Head.the-variants.{Plain, Announced}
+use Rattle.cells.specs.declared.Link.{Link}
+use Rattle.cells.specs.declared.Link.the-variants.{None, To}
 use Rattle.memory.specs.declared.Access.{Access}
 use Rattle.memory.specs.declared.Access.the-variants.{ReadHead, ReadTail, ReadLink, ReadOldTail, CasLink, CasTail, CasHead, WriteOldTail, Announce}
 use Rattle.memory.specs.declared.Hit.{Hit}
-use Rattle.memory.specs.Ends.{sameTail, sameHead}
+use Rattle.cells.specs.Ends.{sameTail, sameHead}
 use Rattle.memory.specs.Memory.{Memory, Performed, perform, linkCas, tailCas, headCas, withAnnouncement, laidOver, cellAt, announcementAt}
 use Rattle.memory.specs.Reach.{nodeOf, announcementOf, on, casLink, tailHit, headHit, withThe, reached, putBack}
 

@@ -5,22 +5,22 @@ use mathlib.Core.Bool.{Bool, true, false}
 use mathlib.Core.List.{List}
 use lib.ListN.{getD, set}
 use Rattle.tally.specs.Tally.{nothingPending}
-use Rattle.memory.specs.declared.Tail.{Tail}
-use Rattle.memory.specs.declared.Front.{Front}
-use Rattle.memory.specs.declared.Head.{Head}
-use Rattle.memory.specs.declared.Head.the-variants.{Plain, Announced}
-use Rattle.memory.specs.declared.Ends.{Ends}
-use Rattle.memory.specs.declared.Link.{Link}
-use Rattle.memory.specs.declared.Link.the-variants.{None, To}
-use Rattle.memory.specs.declared.Cell.{Cell}
-use Rattle.memory.specs.declared.OldTail.{OldTail}
-use Rattle.memory.specs.declared.OldTail.the-variants.{Unset, Set}
-use Rattle.memory.specs.declared.Announcement.{Announcement}
+use Rattle.cells.specs.declared.Tail.{Tail}
+use Rattle.cells.specs.declared.Front.{Front}
+use Rattle.cells.specs.declared.Head.{Head}
+use Rattle.cells.specs.declared.Head.the-variants.{Plain, Announced}
+use Rattle.cells.specs.declared.Ends.{Ends}
+use Rattle.cells.specs.declared.Link.{Link}
+use Rattle.cells.specs.declared.Link.the-variants.{None, To}
+use Rattle.cells.specs.declared.Cell.{Cell}
+use Rattle.cells.specs.declared.OldTail.{OldTail}
+use Rattle.cells.specs.declared.OldTail.the-variants.{Unset, Set}
+use Rattle.cells.specs.declared.Announcement.{Announcement}
 use Rattle.memory.specs.declared.Access.{Access}
 use Rattle.memory.specs.declared.Access.the-variants.{ReadHead, ReadTail, ReadLink, ReadOldTail, CasLink, CasTail, CasHead, WriteOldTail, Announce}
-use Rattle.memory.specs.declared.Found.{Found}
-use Rattle.memory.specs.declared.Found.the-variants as found
-use Rattle.memory.specs.Ends.{sameTail, sameHead}
+use Rattle.cells.specs.declared.Found.{Found}
+use Rattle.cells.specs.declared.Found.the-variants as found
+use Rattle.cells.specs.Ends.{noFront, sameTail, sameHead}
 
 pub record Memory : Type 0 where
   -- head and tail
@@ -33,9 +33,6 @@ pub record Memory : Type 0 where
 -- what stands past the end of a table; no reachable machine comes there
 abbrev pub noCell : Cell
 noCell = record { link = None }
-
-abbrev pub noFront : Front
-noFront = record { node = 0; count = record { 0 = 0 } }
 
 abbrev pub noAnnouncement : Announcement
 noAnnouncement = record { request = record { first = 0; last = 0; tally = nothingPending; «old_head» = noFront }; «old_tail» = Unset }

@@ -3,19 +3,19 @@
 use Prim.Native.Nat.{ℕ, _%_}
 use mathlib.Core.Bool.{Bool, true, false}
 use lib.ListN.{getD, set}
-use Rattle.memory.specs.declared.Tail.{Tail}
-use Rattle.memory.specs.declared.Front.{Front}
-use Rattle.memory.specs.declared.Head.{Head}
-use Rattle.memory.specs.declared.Head.the-variants.{Plain, Announced}
-use Rattle.memory.specs.declared.Link.{Link}
-use Rattle.memory.specs.declared.Link.the-variants.{None, To}
-use Rattle.memory.specs.declared.Announcement.{Announcement}
+use Rattle.cells.specs.declared.Tail.{Tail}
+use Rattle.cells.specs.declared.Front.{Front}
+use Rattle.cells.specs.declared.Head.{Head}
+use Rattle.cells.specs.declared.Head.the-variants.{Plain, Announced}
+use Rattle.cells.specs.declared.Link.{Link}
+use Rattle.cells.specs.declared.Link.the-variants.{None, To}
+use Rattle.cells.specs.declared.Announcement.{Announcement}
 use Rattle.memory.specs.declared.Access.{Access}
 use Rattle.memory.specs.declared.Access.the-variants.{ReadHead, ReadTail, ReadLink, ReadOldTail, CasLink, CasTail, CasHead, WriteOldTail, Announce}
-use Rattle.memory.specs.declared.Found.the-variants as found
+use Rattle.cells.specs.declared.Found.the-variants as found
 use Rattle.memory.specs.declared.Cells.{Cells}
 use Rattle.memory.specs.declared.Hit.{Hit}
-use Rattle.memory.specs.Ends.{sameTail, sameHead}
+use Rattle.cells.specs.Ends.{sameTail, sameHead}
 use Rattle.memory.specs.Memory.{Memory, noCell, noAnnouncement, tailSet, laidOver}
 
 -- the node and the announcement that an access reaches, 0 where it reaches none

@@ -1,76 +1,18 @@
-// Shared memory, and the one access that a step makes of it (01, "Steps": one step is one access).
-//
-// The cells are the head, the tail, one link for each node and one old tail for each announcement. What
-// never changes after the entry that made it (a batch's first and last node, its tally) stands beside
-// them. A thread never touches a cell: it says which access it makes, and `on` makes it.
+// Shared memory, and the one access that a step makes of it (01, "Steps": one step is one access). A thread
+// never touches a cell: it says which access it makes, and `on` makes it.
 ghost use mathlib.Core.Path.{_≡_};
 ghost use Prim.Native.Nat.{_<_};
-ghost use Rattle.memory.specs.Ends.{pastTail, pastFront, sameTail, sameFront, sameHead};
-ghost use Rattle.memory.specs.Found.{headIn, tailIn, linkIn, oldTailIn, takenIn};
 ghost use Rattle.memory.specs.Reach.{nodeOf, announcementOf, on, casLink, casTail, casHead, writeOldTail, announce};
-use tally::Tally;
-
-// The enqueue count stands beside the tail, the dequeue count beside the head; they are never mixed.
-pub struct EnqueueCount(pub u32);
-
-pub struct DequeueCount(pub u32);
-
-pub struct Tail {
-    pub node: u16,
-    pub count: EnqueueCount,
-}
-
-// The head as it is while no announcement is in it.
-pub struct Front {
-    pub node: u16,
-    pub count: DequeueCount,
-}
-
-pub enum Head {
-    Plain(Front),
-    Announced(u8),
-}
-
-pub struct Ends {
-    pub head: Head,
-    pub tail: Tail,
-}
-
-pub enum Link {
-    None,
-    To(u16),
-}
-
-pub struct Cell {
-    pub link: Link,
-}
-
-pub enum OldTail {
-    Unset,
-    Set(Tail),
-}
-
-// What a batch asks for, and the head that its announcement was laid over. The old head is written at
-// b2, before anybody else can see the announcement, and stays while anybody may run it.
-pub struct Request {
-    pub first: u16,
-    pub last: u16,
-    pub tally: Tally,
-    pub old_head: Front,
-}
-
-pub struct Announcement {
-    pub request: Request,
-    pub old_tail: OldTail,
-}
-
-impl Cell {
-    pub const NODES: u16 = 512;
-}
-
-impl Announcement {
-    pub const ANNOUNCEMENTS: u8 = 64;
-}
+use cells::Announcement;
+use cells::Cell;
+use cells::Ends;
+use cells::Found;
+use cells::Front;
+use cells::Head;
+use cells::Link;
+use cells::OldTail;
+use cells::Request;
+use cells::Tail;
 
 // One access. A link is only ever compared with none and swapped.
 pub enum Access {
@@ -85,16 +27,6 @@ pub enum Access {
     Announce { own: u8, was: Front },
 }
 
-// What an access found: the value read; the link that a CAS of a link found, so that none means taken;
-// whether another CAS was taken.
-pub enum Found {
-    Head(Head),
-    Tail(Tail),
-    Link(Link),
-    OldTail(OldTail),
-    Taken(bool),
-}
-
 // The cells that one access can reach: both ends, one link, one announcement.
 pub struct Cells {
     pub ends: Ends,
@@ -105,141 +37,6 @@ pub struct Cells {
 pub struct Hit {
     pub cells: Cells,
     pub found: Found,
-}
-
-impl Tail {
-    // The tail at another node, its count gone up.
-    pub fn past(self, node: u16, by: u32) -> Tail
-        ensures { λ r. ⌜ r ≡ pastTail self node by ⌝ }
-    {
-        let count = self.count;
-        let up = std::num::wrapping_add_u32(count.0, by);
-        Tail {
-            node,
-            count: EnqueueCount(up),
-        }
-    }
-
-    fn same(self, other: Tail) -> bool
-        ensures { λ r. ⌜ r ≡ sameTail self other ⌝ }
-    {
-        let a = self.count;
-        let b = other.count;
-        if self.node == other.node {
-            return a.0 == b.0;
-        }
-        false
-    }
-}
-
-impl Front {
-    // The head at another node, its count gone up.
-    pub fn past(self, node: u16, by: u32) -> Front
-        ensures { λ r. ⌜ r ≡ pastFront self node by ⌝ }
-    {
-        let count = self.count;
-        let up = std::num::wrapping_add_u32(count.0, by);
-        Front {
-            node,
-            count: DequeueCount(up),
-        }
-    }
-
-    fn same(self, other: Front) -> bool
-        ensures { λ r. ⌜ r ≡ sameFront self other ⌝ }
-    {
-        let a = self.count;
-        let b = other.count;
-        if self.node == other.node {
-            return a.0 == b.0;
-        }
-        false
-    }
-}
-
-impl Head {
-    fn same(self, other: Head) -> bool
-        ensures { λ r. ⌜ r ≡ sameHead self other ⌝ }
-    {
-        match self {
-            Head::Plain(a) => match other {
-                Head::Plain(b) => a.same(b),
-                Head::Announced(_) => false,
-            },
-            Head::Announced(a) => match other {
-                Head::Plain(_) => false,
-                Head::Announced(b) => a == b,
-            },
-        }
-    }
-}
-
-// What a step goes on with. Each answers a value of no meaning where another kind of access was made:
-// a step asks only for what its own access finds.
-impl Found {
-    pub fn head(self) -> Head
-        ensures { λ r. ⌜ r ≡ headIn self ⌝ }
-    {
-        match self {
-            Found::Head(head) => head,
-            Found::Tail(_) => Head::Announced(0),
-            Found::Link(_) => Head::Announced(0),
-            Found::OldTail(_) => Head::Announced(0),
-            Found::Taken(_) => Head::Announced(0),
-        }
-    }
-
-    pub fn tail(self) -> Tail
-        ensures { λ r. ⌜ r ≡ tailIn self ⌝ }
-    {
-        let none = Tail {
-            node: 0,
-            count: EnqueueCount(0),
-        };
-        match self {
-            Found::Tail(tail) => tail,
-            Found::Head(_) => none,
-            Found::Link(_) => none,
-            Found::OldTail(_) => none,
-            Found::Taken(_) => none,
-        }
-    }
-
-    pub fn link(self) -> Link
-        ensures { λ r. ⌜ r ≡ linkIn self ⌝ }
-    {
-        match self {
-            Found::Link(link) => link,
-            Found::Head(_) => Link::None,
-            Found::Tail(_) => Link::None,
-            Found::OldTail(_) => Link::None,
-            Found::Taken(_) => Link::None,
-        }
-    }
-
-    pub fn old_tail(self) -> OldTail
-        ensures { λ r. ⌜ r ≡ oldTailIn self ⌝ }
-    {
-        match self {
-            Found::OldTail(old) => old,
-            Found::Head(_) => OldTail::Unset,
-            Found::Tail(_) => OldTail::Unset,
-            Found::Link(_) => OldTail::Unset,
-            Found::Taken(_) => OldTail::Unset,
-        }
-    }
-
-    pub fn taken(self) -> bool
-        ensures { λ r. ⌜ r ≡ takenIn self ⌝ }
-    {
-        match self {
-            Found::Taken(taken) => taken,
-            Found::Head(_) => false,
-            Found::Tail(_) => false,
-            Found::Link(_) => false,
-            Found::OldTail(_) => false,
-        }
-    }
 }
 
 // The remainders make every access total; no reachable machine holds a node from 512 or an

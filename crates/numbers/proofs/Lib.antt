@@ -3,3 +3,4 @@ pub mod WrittenGroups
 pub mod RoundTrip
 pub mod OneEncoding
 pub mod Within
+pub mod Determined

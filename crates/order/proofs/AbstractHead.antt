@@ -15,24 +15,24 @@ use borrow.Author.Tests.{eqb-true, eq-eqb}
 use Rattle.chain.specs.Positions.{at, At, In}
 use Rattle.chain.proofs.Positions.{none-is-not-some, some-injective, within, element, at-is-getD}
 use Rattle.chain.proofs.Following.{last-has-none}
-use Rattle.memory.specs.declared.Tail.{Tail}
-use Rattle.memory.specs.declared.Front.{Front}
-use Rattle.memory.specs.declared.Head.{Head}
-use Rattle.memory.specs.declared.Head.the-variants.{Plain, Announced}
-use Rattle.memory.specs.declared.Link.{Link}
-use Rattle.memory.specs.declared.Link.the-variants.{None, To}
-use Rattle.memory.specs.declared.OldTail.{OldTail}
-use Rattle.memory.specs.declared.OldTail.the-variants.{Unset, Set}
-use Rattle.memory.specs.declared.Request.{Request}
-use Rattle.memory.specs.declared.Announcement.{Announcement}
+use Rattle.cells.specs.declared.Tail.{Tail}
+use Rattle.cells.specs.declared.Front.{Front}
+use Rattle.cells.specs.declared.Head.{Head}
+use Rattle.cells.specs.declared.Head.the-variants.{Plain, Announced}
+use Rattle.cells.specs.declared.Link.{Link}
+use Rattle.cells.specs.declared.Link.the-variants.{None, To}
+use Rattle.cells.specs.declared.OldTail.{OldTail}
+use Rattle.cells.specs.declared.OldTail.the-variants.{Unset, Set}
+use Rattle.cells.specs.declared.Request.{Request}
+use Rattle.cells.specs.declared.Announcement.{Announcement}
 use Rattle.memory.specs.Memory.{cellAt, announcementAt}
-use Rattle.thread.specs.declared.running.RunStep.{RunStep}
-use Rattle.thread.specs.declared.running.RunStep.the-variants.{A1, A2, A3, A4, A5, A6, A7, A8}
-use Rattle.thread.specs.Running.{walkTo}
+use Rattle.place.specs.declared.RunStep.{RunStep}
+use Rattle.place.specs.declared.RunStep.the-variants.{A1, A2, A3, A4, A5, A6, A7, A8}
+use Rattle.running.specs.Running.{walkTo}
 use Rattle.row.specs.Row.{noRow}
 use Rattle.machine.specs.declared.Machine.{Machine}
 use Rattle.machine.specs.State.{noItem}
-use Rattle.machine.specs.Contents.{reached, headToBe, leadsTo, oldTailHead, headNode, abstractHead, chainAfter, contents}
+use Rattle.contents.specs.Contents.{reached, headToBe, leadsTo, oldTailHead, headNode, abstractHead, chainAfter, contents}
 use Rattle.order.proofs.Ghost.{Ghost}
 use Rattle.order.specs.Promises.{requestIn, headOrOld, EveryLinkLeadsOn}
 use Rattle.order.proofs.Shared.{sharedOf, no-link}

@@ -12,12 +12,12 @@ use lib.ListN.{length, length-set}
 use Rattle.chain.specs.Positions.{At, In}
 use Rattle.chain.specs.Chain.{Beside}
 use Rattle.chain.proofs.Positions.{one-element, stays, at-the-end, there-or-at-the-end}
-use Rattle.memory.specs.declared.Tail.{Tail}
-use Rattle.memory.specs.declared.Front.{Front}
-use Rattle.memory.specs.declared.Head.the-variants.{Plain, Announced}
-use Rattle.memory.specs.declared.OldTail.{OldTail}
-use Rattle.memory.specs.declared.OldTail.the-variants.{Unset, Set}
-use Rattle.memory.specs.declared.Announcement.{Announcement}
+use Rattle.cells.specs.declared.Tail.{Tail}
+use Rattle.cells.specs.declared.Front.{Front}
+use Rattle.cells.specs.declared.Head.the-variants.{Plain, Announced}
+use Rattle.cells.specs.declared.OldTail.{OldTail}
+use Rattle.cells.specs.declared.OldTail.the-variants.{Unset, Set}
+use Rattle.cells.specs.declared.Announcement.{Announcement}
 use Rattle.memory.specs.Memory.{announcementAt, laidOver}
 use Rattle.row.specs.declared.Row.{Row}
 use Rattle.order.proofs.Ghost.{Ghost, Batch, installs}

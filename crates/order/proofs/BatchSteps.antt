@@ -2,15 +2,15 @@
 use Prim.Native.Nat.{ℕ}
 use mathlib.Core.Path.{_≡_, refl}
 use mathlib.Core.Bool.{Bool, true, false, cond}
-use Rattle.memory.specs.declared.Front.{Front}
-use Rattle.memory.specs.declared.Head.{Head}
-use Rattle.memory.specs.declared.Head.the-variants.{Plain, Announced}
-use Rattle.memory.specs.declared.Found.the-variants as found
-use Rattle.memory.specs.Ends.{sameHead}
+use Rattle.cells.specs.declared.Front.{Front}
+use Rattle.cells.specs.declared.Head.{Head}
+use Rattle.cells.specs.declared.Head.the-variants.{Plain, Announced}
+use Rattle.cells.specs.declared.Found.the-variants as found
+use Rattle.cells.specs.Ends.{sameHead}
 use Rattle.memory.specs.Memory.{Memory, announcementAt, laidOver, withAnnouncement, headCas, perform}
-use Rattle.memory.specs.Found.{takenIn}
-use Rattle.thread.specs.declared.batch.BatchStep.{BatchStep}
-use Rattle.thread.specs.declared.batch.BatchStep.the-variants.{B1, B2}
+use Rattle.cells.specs.Found.{takenIn}
+use Rattle.place.specs.declared.BatchStep.{BatchStep}
+use Rattle.place.specs.declared.BatchStep.the-variants.{B1, B2}
 use Rattle.thread.specs.Batch.{batchAccess, batchAfter, afterB1, afterB2}
 use Rattle.row.specs.declared.Row.{Row}
 use Rattle.order.proofs.Ghost.{Ghost, installs, batchGhost}

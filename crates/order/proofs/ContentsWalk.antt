@@ -11,12 +11,12 @@ use Rattle.chain.specs.Positions.{at, At}
 use Rattle.chain.specs.Chain.{Chain, following}
 use Rattle.chain.proofs.Positions.{element}
 use Rattle.chain.proofs.Following.{meets-the-rest}
-use Rattle.memory.specs.declared.Cell.{Cell}
-use Rattle.memory.specs.declared.Link.{Link}
-use Rattle.memory.specs.declared.Link.the-variants.{None, To}
+use Rattle.cells.specs.declared.Cell.{Cell}
+use Rattle.cells.specs.declared.Link.{Link}
+use Rattle.cells.specs.declared.Link.the-variants.{None, To}
 use Rattle.memory.specs.Memory.{cellAt}
-use Rattle.call.specs.Pairing.{nodeBehind}
-use Rattle.machine.specs.Contents.{walked, chainAfter, ifLinked}
+use Rattle.pairing.specs.Pairing.{nodeBehind}
+use Rattle.contents.specs.Contents.{walked, chainAfter, ifLinked}
 use Rattle.order.proofs.Shared.{next, led, link-to}
 
 module _ (links : List Cell) {c : List ℕ} (chain : Chain (next links) c) where

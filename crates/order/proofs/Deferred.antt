@@ -20,12 +20,12 @@ use Rattle.tally.specs.Tally.{tallyOf, with}
 use Rattle.tally.specs.declared.Tally.{Tally}
 use Rattle.tally.proofs.KeptUp.{tally-one-more}
 use Rattle.tally.proofs.Counts.{enqueues-are-calls}
-use Rattle.memory.specs.declared.Cell.{Cell}
-use Rattle.memory.specs.declared.Link.the-variants.{To}
-use Rattle.thread.specs.declared.Place.the-variants.{Idle}
+use Rattle.cells.specs.declared.Cell.{Cell}
+use Rattle.cells.specs.declared.Link.the-variants.{To}
+use Rattle.place.specs.declared.Place.the-variants.{Idle}
 use Rattle.row.specs.declared.Row.{Row}
 use Rattle.row.specs.Row.{withEnqueue, withDequeue, firstWith}
-use Rattle.call.specs.declared.answer.Item.{Item}
+use Rattle.answer.specs.declared.Item.{Item}
 use Rattle.call.specs.Next.{nextNode, nextFuture}
 use Rattle.machine.specs.declared.Machine.{Machine}
 use Rattle.machine.specs.State.{rowAt}

@@ -12,18 +12,18 @@ use Rattle.chain.proofs.Positions.{drop-from, at-map}
 use Rattle.chain.proofs.Following.{none-is-the-last}
 use Rattle.tally.specs.Fifo.{Call, dequeue, Result, item, empty, result, results, successful}
 use Rattle.tally.specs.Excess.{enqueued}
-use Rattle.memory.specs.declared.Head.{Head}
-use Rattle.memory.specs.declared.Head.the-variants.{Plain, Announced}
-use Rattle.memory.specs.declared.Front.{Front}
-use Rattle.memory.specs.declared.Link.{Link}
-use Rattle.memory.specs.declared.Link.the-variants.{None, To}
-use Rattle.memory.specs.Ends.{pastFront, sameHead}
+use Rattle.cells.specs.declared.Head.{Head}
+use Rattle.cells.specs.declared.Head.the-variants.{Plain, Announced}
+use Rattle.cells.specs.declared.Front.{Front}
+use Rattle.cells.specs.declared.Link.{Link}
+use Rattle.cells.specs.declared.Link.the-variants.{None, To}
+use Rattle.cells.specs.Ends.{pastFront, sameHead}
 use Rattle.memory.specs.Memory.{cellAt, withHead, headCas, perform}
-use Rattle.memory.specs.Found.{takenIn}
-use Rattle.thread.specs.declared.dequeue.DequeueStep.{DequeueStep}
-use Rattle.thread.specs.declared.dequeue.DequeueStep.the-variants.{D1, D2, D3}
-use Rattle.thread.specs.declared.After.{After}
-use Rattle.thread.specs.declared.After.the-variants as afterwards
+use Rattle.cells.specs.Found.{takenIn}
+use Rattle.place.specs.declared.DequeueStep.{DequeueStep}
+use Rattle.place.specs.declared.DequeueStep.the-variants.{D1, D2, D3}
+use Rattle.place.specs.declared.After.{After}
+use Rattle.place.specs.declared.After.the-variants as afterwards
 use Rattle.thread.specs.Dequeue.{dequeueAccess, dequeueAfter, afterD1, afterD2, afterD3}
 use Rattle.row.specs.declared.Row.{Row}
 use Rattle.machine.specs.declared.Machine.{Machine}

@@ -8,19 +8,19 @@ use borrow.Author.Tests.{eqb-true}
 use Rattle.chain.specs.Positions.{At}
 use Rattle.chain.proofs.Positions.{within}
 use Rattle.refusal.proofs.Tests.{either-way}
-use Rattle.memory.specs.declared.Front.{Front}
-use Rattle.memory.specs.declared.Head.{Head}
-use Rattle.memory.specs.declared.Head.the-variants.{Plain, Announced}
-use Rattle.memory.specs.declared.Link.{Link}
-use Rattle.memory.specs.declared.Link.the-variants.{None, To}
-use Rattle.memory.specs.declared.Found.the-variants as found
-use Rattle.memory.specs.Ends.{up, pastFront, sameHead}
+use Rattle.cells.specs.declared.Front.{Front}
+use Rattle.cells.specs.declared.Head.{Head}
+use Rattle.cells.specs.declared.Head.the-variants.{Plain, Announced}
+use Rattle.cells.specs.declared.Link.{Link}
+use Rattle.cells.specs.declared.Link.the-variants.{None, To}
+use Rattle.cells.specs.declared.Found.the-variants as found
+use Rattle.cells.specs.Ends.{up, pastFront, sameHead}
 use Rattle.memory.specs.Memory.{cellAt, perform}
-use Rattle.thread.specs.declared.dequeue.DequeueStep.{DequeueStep}
-use Rattle.thread.specs.declared.dequeue.DequeueStep.the-variants.{D1, D2, D3}
-use Rattle.thread.specs.declared.dequeues.Walk.{Walk}
-use Rattle.thread.specs.declared.dequeues.DequeuesStep.{DequeuesStep}
-use Rattle.thread.specs.declared.dequeues.DequeuesStep.the-variants.{Q1, Q2, Q3}
+use Rattle.place.specs.declared.DequeueStep.{DequeueStep}
+use Rattle.place.specs.declared.DequeueStep.the-variants.{D1, D2, D3}
+use Rattle.place.specs.declared.Walk.{Walk}
+use Rattle.place.specs.declared.DequeuesStep.{DequeuesStep}
+use Rattle.place.specs.declared.DequeuesStep.the-variants.{Q1, Q2, Q3}
 use Rattle.thread.specs.Dequeue.{dequeueAccess, dequeueAfter, afterD1, afterD2, afterD3}
 use Rattle.thread.specs.Dequeues.{dequeuesAccess, dequeuesAfter, afterQ1, afterQ2, afterQ3, oneFurther}
 use Rattle.row.specs.declared.Row.{Row}

@@ -18,18 +18,18 @@ use Rattle.chain.proofs.Following.{none-is-the-last}
 use Rattle.tally.specs.Fifo.{Call, Result, results, successful}
 use Rattle.tally.specs.Excess.{enqueued}
 use Rattle.tally.proofs.OneKind.{successful-dequeues, results-dequeues}
-use Rattle.memory.specs.declared.Head.{Head}
-use Rattle.memory.specs.declared.Head.the-variants.{Plain, Announced}
-use Rattle.memory.specs.declared.Link.{Link}
-use Rattle.memory.specs.declared.Link.the-variants.{None, To}
-use Rattle.memory.specs.Ends.{pastFront, sameHead}
+use Rattle.cells.specs.declared.Head.{Head}
+use Rattle.cells.specs.declared.Head.the-variants.{Plain, Announced}
+use Rattle.cells.specs.declared.Link.{Link}
+use Rattle.cells.specs.declared.Link.the-variants.{None, To}
+use Rattle.cells.specs.Ends.{pastFront, sameHead}
 use Rattle.memory.specs.Memory.{cellAt, withHead, headCas, perform}
-use Rattle.memory.specs.Found.{takenIn}
-use Rattle.thread.specs.declared.dequeues.Walk.{Walk}
-use Rattle.thread.specs.declared.dequeues.DequeuesStep.{DequeuesStep}
-use Rattle.thread.specs.declared.dequeues.DequeuesStep.the-variants.{Q1, Q2, Q3}
-use Rattle.thread.specs.declared.After.{After}
-use Rattle.thread.specs.declared.After.the-variants as afterwards
+use Rattle.cells.specs.Found.{takenIn}
+use Rattle.place.specs.declared.Walk.{Walk}
+use Rattle.place.specs.declared.DequeuesStep.{DequeuesStep}
+use Rattle.place.specs.declared.DequeuesStep.the-variants.{Q1, Q2, Q3}
+use Rattle.place.specs.declared.After.{After}
+use Rattle.place.specs.declared.After.the-variants as afterwards
 use Rattle.thread.specs.Dequeues.{dequeuesAccess, dequeuesAfter, dequeuesAt, afterQ1, afterQ2, afterQ3, oneFurther}
 use Rattle.row.specs.declared.Row.{Row}
 use Rattle.machine.specs.declared.Machine.{Machine}

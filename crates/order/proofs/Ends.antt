@@ -7,7 +7,7 @@ use lib.ListN.{length}
 use Rattle.chain.specs.Positions.{At, In}
 use Rattle.chain.proofs.Positions.{one-element, within}
 use Rattle.chain.proofs.Pigeons.{at-most}
-use Rattle.memory.specs.Ends.{up}
+use Rattle.cells.specs.Ends.{up}
 use Rattle.order.proofs.Ghost.{Ghost}
 use Rattle.order.proofs.Shared.{Shared}
 use Rattle.order.proofs.Invariant.{Linked, InvEnds, Inv}

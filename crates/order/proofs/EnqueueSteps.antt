@@ -10,19 +10,19 @@ use native.Mathlib.Decide.{decLt}
 use lib.ListN.{length}
 use Rattle.chain.specs.Positions.{at, At, In}
 use Rattle.chain.proofs.Positions.{none-is-not-some, some-injective, one-element, within, element, stays, at-the-end, the-only-one}
-use Rattle.memory.specs.declared.Tail.{Tail}
-use Rattle.memory.specs.declared.Front.{Front}
-use Rattle.memory.specs.declared.Head.{Head}
-use Rattle.memory.specs.declared.Head.the-variants.{Plain, Announced}
-use Rattle.memory.specs.declared.Link.{Link}
-use Rattle.memory.specs.declared.Link.the-variants.{None, To}
-use Rattle.memory.specs.declared.Found.the-variants as found
-use Rattle.memory.specs.Ends.{pastTail, sameTail}
+use Rattle.cells.specs.declared.Tail.{Tail}
+use Rattle.cells.specs.declared.Front.{Front}
+use Rattle.cells.specs.declared.Head.{Head}
+use Rattle.cells.specs.declared.Head.the-variants.{Plain, Announced}
+use Rattle.cells.specs.declared.Link.{Link}
+use Rattle.cells.specs.declared.Link.the-variants.{None, To}
+use Rattle.cells.specs.declared.Found.the-variants as found
+use Rattle.cells.specs.Ends.{pastTail, sameTail}
 use Rattle.memory.specs.Memory.{cellAt, linkCas, perform}
-use Rattle.memory.specs.Found.{linkIn}
-use Rattle.thread.specs.declared.After.the-variants as afterwards
-use Rattle.thread.specs.declared.enqueue.EnqueueStep.{EnqueueStep}
-use Rattle.thread.specs.declared.enqueue.EnqueueStep.the-variants.{E1, E2, E3, E4, E5}
+use Rattle.cells.specs.Found.{linkIn}
+use Rattle.place.specs.declared.After.the-variants as afterwards
+use Rattle.place.specs.declared.EnqueueStep.{EnqueueStep}
+use Rattle.place.specs.declared.EnqueueStep.the-variants.{E1, E2, E3, E4, E5}
 use Rattle.thread.specs.Enqueue.{enqueueAccess, enqueueAfter, afterE2, afterE4, enqueueAt}
 use Rattle.row.specs.declared.Row.{Row}
 use Rattle.order.specs.Links.{ifNone}

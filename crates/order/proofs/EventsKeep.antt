@@ -3,12 +3,12 @@ use Prim.Native.Nat.{ℕ, _<_}
 use mathlib.Core.Path.{_≡_, refl, sym, _∙_, subst}
 use native.Mathlib.Omega.{arith}
 use Rattle.chain.proofs.Positions.{empty-without-length}
-use Rattle.thread.specs.declared.Place.{Place}
-use Rattle.thread.specs.declared.Place.the-variants as place
-use Rattle.thread.specs.declared.enqueue.EnqueueStep.the-variants.{E1}
-use Rattle.thread.specs.declared.dequeue.DequeueStep.the-variants.{D1}
+use Rattle.place.specs.declared.Place.{Place}
+use Rattle.place.specs.declared.Place.the-variants as place
+use Rattle.place.specs.declared.EnqueueStep.the-variants.{E1}
+use Rattle.place.specs.declared.DequeueStep.the-variants.{D1}
 use Rattle.row.specs.Row.{placed}
-use Rattle.call.specs.declared.answer.Item.{Item}
+use Rattle.answer.specs.declared.Item.{Item}
 use Rattle.call.specs.Next.{nextNode}
 use Rattle.machine.specs.declared.Machine.{Machine}
 use Rattle.machine.specs.State.{rowAt, withRow}

@@ -15,7 +15,7 @@ use Rattle.chain.proofs.Positions.{within, there-or-at-the-end}
 use Rattle.tally.specs.Fifo.{Call, enqueue}
 use Rattle.tally.specs.Tally.{up}
 use Rattle.row.specs.declared.Row.{Row}
-use Rattle.call.specs.declared.answer.Future.{Future}
+use Rattle.answer.specs.declared.Future.{Future}
 use Rattle.call.specs.Next.{nextFuture}
 use Rattle.machine.specs.declared.Machine.{Machine}
 use Rattle.machine.specs.State.{rowAt, noFuture}

@@ -9,19 +9,19 @@ use lib.Seq.{getD-set-same, getD-set-other}
 use Rattle.chain.specs.Positions.{At}
 use Rattle.chain.proofs.Positions.{within}
 use Rattle.tally.specs.Fifo.{Call, enqueue, dequeue}
-use Rattle.thread.specs.declared.Place.the-variants as place
-use Rattle.thread.specs.declared.enqueue.EnqueueStep.the-variants.{E1}
-use Rattle.thread.specs.declared.dequeue.DequeueStep.the-variants.{D1}
-use Rattle.thread.specs.declared.batch.BatchStep.the-variants.{B1}
-use Rattle.thread.specs.declared.dequeues.DequeuesStep.the-variants.{Q1}
-use Rattle.thread.specs.declared.After.{After}
-use Rattle.thread.specs.declared.After.the-variants as afterwards
-use Rattle.thread.specs.Place.{placeAfter}
+use Rattle.place.specs.declared.Place.the-variants as place
+use Rattle.place.specs.declared.EnqueueStep.the-variants.{E1}
+use Rattle.place.specs.declared.DequeueStep.the-variants.{D1}
+use Rattle.place.specs.declared.BatchStep.the-variants.{B1}
+use Rattle.place.specs.declared.DequeuesStep.the-variants.{Q1}
+use Rattle.place.specs.declared.After.{After}
+use Rattle.place.specs.declared.After.the-variants as afterwards
+use Rattle.place.specs.Place.{placeAfter}
 use Rattle.row.specs.declared.Row.{Row}
 use Rattle.row.specs.Row.{placed, calling, cleared, withEnqueue, withDequeue, freshRow, noRow}
-use Rattle.call.specs.declared.answer.Item.{Item}
-use Rattle.call.specs.declared.answer.Outcome.the-variants as outcome
-use Rattle.call.specs.declared.pairing.Cursor.{Cursor}
+use Rattle.answer.specs.declared.Item.{Item}
+use Rattle.answer.specs.declared.Outcome.the-variants as outcome
+use Rattle.pairing.specs.declared.Cursor.{Cursor}
 use Rattle.call.specs.Next.{nextNode, nextFuture, nextAnnouncement}
 use Rattle.machine.specs.declared.Machine.{Machine}
 use Rattle.machine.specs.State.{rowAt, memoryOf, noFuture, freshMachine}

@@ -9,11 +9,11 @@ use mathlib.Core.Logic.{_⊎_, _≢_}
 use lib.ListN.{length, getD}
 use Rattle.chain.specs.Positions.{At, In}
 use Rattle.tally.specs.Fifo.{Result}
-use Rattle.thread.specs.declared.Place.the-variants.{Idle}
-use Rattle.thread.specs.declared.After.{After}
-use Rattle.thread.specs.declared.After.the-variants as afterwards
-use Rattle.call.specs.declared.answer.Outcome.the-variants.{Waiting}
-use Rattle.call.specs.declared.pairing.Cursor.{Cursor}
+use Rattle.place.specs.declared.Place.the-variants.{Idle}
+use Rattle.place.specs.declared.After.{After}
+use Rattle.place.specs.declared.After.the-variants as afterwards
+use Rattle.answer.specs.declared.Outcome.the-variants.{Waiting}
+use Rattle.pairing.specs.declared.Cursor.{Cursor}
 use Rattle.machine.specs.declared.Machine.{Machine}
 use Rattle.machine.specs.State.{rowAt}
 use Rattle.machine.specs.Steps.{hop, stepOf}

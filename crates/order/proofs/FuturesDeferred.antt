@@ -14,8 +14,8 @@ use Rattle.chain.proofs.Positions.{within, stays, at-the-end, length-one-more, 
 use Rattle.tally.specs.Fifo.{Call}
 use Rattle.tally.specs.Tally.{up}
 use Rattle.row.specs.declared.Row.{Row}
-use Rattle.call.specs.declared.answer.Future.{Future}
-use Rattle.call.specs.declared.answer.Outcome.the-variants.{Waiting}
+use Rattle.answer.specs.declared.Future.{Future}
+use Rattle.answer.specs.declared.Outcome.the-variants.{Waiting}
 use Rattle.call.specs.Next.{nextFuture}
 use Rattle.machine.specs.declared.Machine.{Machine}
 use Rattle.machine.specs.State.{rowAt, noFuture}

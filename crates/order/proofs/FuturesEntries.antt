@@ -17,19 +17,19 @@ use Rattle.chain.proofs.Positions.{within, in-either, there-or-at-the-end, none
 use Rattle.tally.specs.Fifo.{Call, enqueue, dequeue, Result}
 use Rattle.tally.specs.Tally.{up}
 use Rattle.tally.specs.Excess.{enqueues}
-use Rattle.thread.specs.declared.Place.{Place}
-use Rattle.thread.specs.declared.Place.the-variants as place
-use Rattle.thread.specs.declared.Place.the-variants.{Idle}
-use Rattle.thread.specs.declared.enqueue.EnqueueStep.the-variants.{E1}
-use Rattle.thread.specs.declared.dequeue.DequeueStep.the-variants.{D1}
-use Rattle.thread.specs.declared.batch.BatchStep.the-variants.{B1}
-use Rattle.thread.specs.declared.dequeues.DequeuesStep.the-variants.{Q1}
+use Rattle.place.specs.declared.Place.{Place}
+use Rattle.place.specs.declared.Place.the-variants as place
+use Rattle.place.specs.declared.Place.the-variants.{Idle}
+use Rattle.place.specs.declared.EnqueueStep.the-variants.{E1}
+use Rattle.place.specs.declared.DequeueStep.the-variants.{D1}
+use Rattle.place.specs.declared.BatchStep.the-variants.{B1}
+use Rattle.place.specs.declared.DequeuesStep.the-variants.{Q1}
 use Rattle.row.specs.declared.Row.{Row}
 use Rattle.row.specs.Row.{placed, calling, withEnqueue, withDequeue, noRow}
-use Rattle.call.specs.declared.answer.Future.{Future}
-use Rattle.call.specs.declared.answer.Outcome.the-variants.{Waiting}
+use Rattle.answer.specs.declared.Future.{Future}
+use Rattle.answer.specs.declared.Outcome.the-variants.{Waiting}
 use Rattle.call.specs.Next.{nextNode, nextFuture, nextAnnouncement}
-use Rattle.call.specs.Answer.{answered}
+use Rattle.answer.specs.Answer.{answered}
 use Rattle.machine.specs.declared.Machine.{Machine}
 use Rattle.machine.specs.State.{rowAt, freshMachine}
 use Rattle.machine.specs.Entries.{linkedBehind, deferEnqueue, deferDequeue}

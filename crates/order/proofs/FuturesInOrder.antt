@@ -9,7 +9,7 @@ use native.Mathlib.Decide.{decLt}
 use lib.ListN.{length}
 use Rattle.chain.specs.Positions.{At, In}
 use Rattle.chain.proofs.Positions.{within, one-element}
-use Rattle.call.specs.declared.answer.Outcome.the-variants.{Waiting}
+use Rattle.answer.specs.declared.Outcome.the-variants.{Waiting}
 use Rattle.machine.specs.declared.Machine.{Machine}
 use Rattle.order.specs.Order.{Called, Effect, Given, Story, of}
 use Rattle.order.specs.PlainQueue.{Ran, ran, Stands}

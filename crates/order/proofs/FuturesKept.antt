@@ -11,10 +11,10 @@ use lib.ListN.{length, getD, set, length-set}
 use lib.Seq.{getD-set-same, getD-set-other}
 use Rattle.chain.specs.Positions.{At, In}
 use Rattle.tally.specs.Fifo.{Call, Result}
-use Rattle.thread.specs.declared.Place.the-variants.{Idle}
+use Rattle.place.specs.declared.Place.the-variants.{Idle}
 use Rattle.row.specs.declared.Row.{Row}
-use Rattle.call.specs.declared.answer.Future.{Future}
-use Rattle.call.specs.declared.answer.Outcome.the-variants.{Waiting}
+use Rattle.answer.specs.declared.Future.{Future}
+use Rattle.answer.specs.declared.Outcome.the-variants.{Waiting}
 use Rattle.machine.specs.declared.Machine.{Machine}
 use Rattle.machine.specs.State.{rowAt, noFuture}
 use Rattle.order.specs.Order.{Called, Effect, Given, Remembered, Story, of, nothingRemembered}

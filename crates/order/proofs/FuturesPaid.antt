@@ -13,13 +13,13 @@ use lib.Seq.{getD-set-same, getD-set-other}
 use Rattle.chain.specs.Positions.{at, At, In}
 use Rattle.chain.proofs.Positions.{none-is-not-some, some-injective, within, element, at-map}
 use Rattle.tally.specs.Fifo.{Call, Result}
-use Rattle.thread.specs.Place.{placeAfter}
+use Rattle.place.specs.Place.{placeAfter}
 use Rattle.row.specs.declared.Row.{Row}
 use Rattle.row.specs.Row.{placed, cleared}
-use Rattle.call.specs.declared.answer.Future.{Future}
-use Rattle.call.specs.declared.answer.Outcome.{Outcome}
-use Rattle.call.specs.declared.answer.Outcome.the-variants.{Waiting}
-use Rattle.call.specs.declared.pairing.Cursor.{Cursor}
+use Rattle.answer.specs.declared.Future.{Future}
+use Rattle.answer.specs.declared.Outcome.{Outcome}
+use Rattle.answer.specs.declared.Outcome.the-variants.{Waiting}
+use Rattle.pairing.specs.declared.Cursor.{Cursor}
 use Rattle.machine.specs.declared.Machine.{Machine}
 use Rattle.machine.specs.State.{rowAt, memoryOf, noFuture}
 use Rattle.machine.specs.Pairing.{pairing, settled}

@@ -13,18 +13,18 @@ use lib.Seq.{set-set}
 use Rattle.chain.specs.Positions.{at, At}
 use Rattle.chain.proofs.Positions.{within, in-either, empty-without-length}
 use Rattle.tally.specs.Fifo.{Call}
-use Rattle.thread.specs.declared.Place.{Place}
-use Rattle.thread.specs.declared.After.{After}
-use Rattle.thread.specs.declared.After.the-variants as afterwards
-use Rattle.thread.specs.Place.{placeAfter}
+use Rattle.place.specs.declared.Place.{Place}
+use Rattle.place.specs.declared.After.{After}
+use Rattle.place.specs.declared.After.the-variants as afterwards
+use Rattle.place.specs.Place.{placeAfter}
 use Rattle.row.specs.Row.{placed, cleared}
-use Rattle.call.specs.declared.answer.Answer.{Answer}
-use Rattle.call.specs.declared.answer.Answer.the-variants as answer
-use Rattle.call.specs.declared.answer.Outcome.{Outcome}
-use Rattle.call.specs.declared.answer.Outcome.the-variants as outcome
-use Rattle.call.specs.declared.answer.Outcome.the-variants.{Waiting}
-use Rattle.call.specs.declared.pairing.Cursor.{Cursor}
-use Rattle.call.specs.Answer.{answered}
+use Rattle.answer.specs.declared.Answer.{Answer}
+use Rattle.answer.specs.declared.Answer.the-variants as answer
+use Rattle.answer.specs.declared.Outcome.{Outcome}
+use Rattle.answer.specs.declared.Outcome.the-variants as outcome
+use Rattle.answer.specs.declared.Outcome.the-variants.{Waiting}
+use Rattle.pairing.specs.declared.Cursor.{Cursor}
+use Rattle.answer.specs.Answer.{answered}
 use Rattle.machine.specs.declared.Machine.{Machine}
 use Rattle.machine.specs.State.{rowAt, memoryOf}
 use Rattle.machine.specs.Pairing.{pairing, settled}

@@ -4,9 +4,9 @@ use Prim.Native.Nat.{suc, _+_, _<_}
 use mathlib.Core.Path.{_≡_, _∙_}
 use native.Mathlib.Omega.{arith}
 use lib.ListN.{set}
-use Rattle.memory.specs.declared.Request.{Request}
+use Rattle.cells.specs.declared.Request.{Request}
 use Rattle.memory.specs.Memory.{noCell}
-use Rattle.call.specs.declared.answer.Item.{Item}
+use Rattle.answer.specs.declared.Item.{Item}
 use Rattle.call.specs.declared.test.Used.{Used}
 use Rattle.call.specs.Next.{nextNode, nextAnnouncement}
 use Rattle.machine.specs.declared.Machine.{Machine}

@@ -8,9 +8,9 @@ use native.Mathlib.Omega.{arith}
 use lib.ListN.{length, length-set}
 use Rattle.chain.specs.Positions.{At, In}
 use Rattle.chain.proofs.Positions.{at-left, stays, at-the-end, length-one-more, there-or-at-the-end}
-use Rattle.memory.specs.declared.OldTail.the-variants.{Unset}
-use Rattle.memory.specs.declared.Request.{Request}
-use Rattle.memory.specs.declared.Announcement.{Announcement}
+use Rattle.cells.specs.declared.OldTail.the-variants.{Unset}
+use Rattle.cells.specs.declared.Request.{Request}
+use Rattle.cells.specs.declared.Announcement.{Announcement}
 use Rattle.memory.specs.Memory.{announcementAt}
 use Rattle.order.proofs.Ghost.{Ghost, Batch, announces}
 use Rattle.order.proofs.Shared.{Shared, announcing, announcement-set, other-announcement}

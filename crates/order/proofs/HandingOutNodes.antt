@@ -9,8 +9,8 @@ use native.Mathlib.Decide.{ℕ-discrete}
 use lib.ListN.{length, set, length-set}
 use Rattle.chain.specs.Positions.{at, At}
 use Rattle.chain.proofs.Positions.{one-element, within, past-the-end, at-left, stays, at-the-end, length-one-more, there-or-at-the-end}
-use Rattle.memory.specs.declared.Cell.{Cell}
-use Rattle.memory.specs.declared.Link.the-variants.{None, To}
+use Rattle.cells.specs.declared.Cell.{Cell}
+use Rattle.cells.specs.declared.Link.the-variants.{None, To}
 use Rattle.memory.specs.Memory.{noCell}
 use Rattle.order.proofs.Ghost.{Ghost, owns}
 use Rattle.order.proofs.Shared.{Shared, next, withLinks, linked, next-of-linked, next-of-others}

@@ -12,15 +12,15 @@ use lib.ListN.{length-set}
 use Rattle.chain.specs.Positions.{At, In}
 use Rattle.chain.proofs.Positions.{one-element, within}
 use Rattle.refusal.proofs.Tests.{either-way}
-use Rattle.memory.specs.declared.Tail.{Tail}
-use Rattle.memory.specs.declared.Front.{Front}
-use Rattle.memory.specs.declared.Head.{Head}
-use Rattle.memory.specs.declared.Head.the-variants.{Plain, Announced}
-use Rattle.memory.specs.declared.OldTail.{OldTail}
-use Rattle.memory.specs.declared.OldTail.the-variants.{Set}
-use Rattle.memory.specs.declared.Announcement.{Announcement}
+use Rattle.cells.specs.declared.Tail.{Tail}
+use Rattle.cells.specs.declared.Front.{Front}
+use Rattle.cells.specs.declared.Head.{Head}
+use Rattle.cells.specs.declared.Head.the-variants.{Plain, Announced}
+use Rattle.cells.specs.declared.OldTail.{OldTail}
+use Rattle.cells.specs.declared.OldTail.the-variants.{Set}
+use Rattle.cells.specs.declared.Announcement.{Announcement}
 use Rattle.memory.specs.Memory.{announcementAt, tailSet}
-use Rattle.memory.specs.Ends.{sameHead}
+use Rattle.cells.specs.Ends.{sameHead}
 use Rattle.order.proofs.Ghost.{Ghost}
 use Rattle.order.proofs.Shared.{Shared, withHead, headIf, withAnnouncements, announcing, announcement-set, other-announcement}
 use Rattle.order.proofs.Invariant.{TailAt, FrontAt, Linked, Shape, Asks, Inv}

@@ -5,33 +5,34 @@ use mathlib.Core.Bool.{Bool, true, false, true≢false}
 use mathlib.Core.Logic.{_⊎_, inl, inr, _≢_}
 use lib.Dec.{eqb, ltb}
 use Rattle.refusal.proofs.Tests.{either-way}
-use Rattle.memory.specs.declared.Tail.{Tail}
-use Rattle.memory.specs.declared.Front.{Front}
-use Rattle.memory.specs.declared.Head.{Head}
-use Rattle.memory.specs.declared.Head.the-variants.{Plain, Announced}
-use Rattle.memory.specs.declared.Link.{Link}
-use Rattle.memory.specs.declared.Link.the-variants.{None, To}
-use Rattle.memory.specs.declared.Request.{Request}
-use Rattle.memory.specs.declared.Found.{Found}
-use Rattle.memory.specs.Found.{headIn, linkIn, takenIn}
-use Rattle.thread.specs.declared.Place.{Place}
-use Rattle.thread.specs.declared.Place.the-variants.{Idle, Enqueue, Dequeue, Batch, Dequeues, Running}
-use Rattle.thread.specs.declared.Resume.{Resume}
-use Rattle.thread.specs.declared.Resume.the-variants as resume
-use Rattle.thread.specs.declared.After.{After}
-use Rattle.thread.specs.declared.After.the-variants as afterwards
-use Rattle.thread.specs.declared.enqueue.EnqueueStep.the-variants.{E1, E2, E3, E4, E5}
-use Rattle.thread.specs.declared.dequeue.DequeueStep.the-variants.{D1, D2, D3}
-use Rattle.thread.specs.declared.batch.BatchStep.the-variants.{B1, B2}
-use Rattle.thread.specs.declared.dequeues.Walk.{Walk}
-use Rattle.thread.specs.declared.dequeues.DequeuesStep.the-variants.{Q1, Q2, Q3}
-use Rattle.thread.specs.declared.running.RunStep.the-variants.{A1, A2, A3, A4, A5, A6, A7, A8}
-use Rattle.thread.specs.Place.{idle, after}
+use Rattle.cells.specs.declared.Tail.{Tail}
+use Rattle.cells.specs.declared.Front.{Front}
+use Rattle.cells.specs.declared.Head.{Head}
+use Rattle.cells.specs.declared.Head.the-variants.{Plain, Announced}
+use Rattle.cells.specs.declared.Link.{Link}
+use Rattle.cells.specs.declared.Link.the-variants.{None, To}
+use Rattle.cells.specs.declared.Request.{Request}
+use Rattle.cells.specs.declared.Found.{Found}
+use Rattle.cells.specs.Found.{headIn, linkIn, takenIn}
+use Rattle.place.specs.declared.Place.{Place}
+use Rattle.place.specs.declared.Place.the-variants.{Idle, Enqueue, Dequeue, Batch, Dequeues, Running}
+use Rattle.place.specs.declared.Resume.{Resume}
+use Rattle.place.specs.declared.Resume.the-variants as resume
+use Rattle.place.specs.declared.After.{After}
+use Rattle.place.specs.declared.After.the-variants as afterwards
+use Rattle.place.specs.declared.EnqueueStep.the-variants.{E1, E2, E3, E4, E5}
+use Rattle.place.specs.declared.DequeueStep.the-variants.{D1, D2, D3}
+use Rattle.place.specs.declared.BatchStep.the-variants.{B1, B2}
+use Rattle.place.specs.declared.Walk.{Walk}
+use Rattle.place.specs.declared.DequeuesStep.the-variants.{Q1, Q2, Q3}
+use Rattle.place.specs.declared.RunStep.the-variants.{A1, A2, A3, A4, A5, A6, A7, A8}
+use Rattle.place.specs.Place.{idle}
+use Rattle.thread.specs.Calls.{after}
 use Rattle.thread.specs.Enqueue.{afterE2, afterE4, enqueueAfter}
 use Rattle.thread.specs.Dequeue.{afterD1, afterD2, afterD3, dequeueAfter}
 use Rattle.thread.specs.Batch.{afterB1, afterB2, batchAfter}
 use Rattle.thread.specs.Dequeues.{afterQ1, afterQ2, afterQ3, oneFurther, dequeuesAfter}
-use Rattle.thread.specs.Running.{back, runAfter}
+use Rattle.running.specs.Running.{back, runAfter}
 use Rattle.machine.specs.declared.Machine.{Machine}
 use Rattle.machine.specs.State.{rowAt}
 use Rattle.machine.specs.Steps.{hop}

@@ -9,13 +9,13 @@ use lib.ListN.{length}
 use Rattle.chain.specs.Positions.{At, In}
 use Rattle.chain.specs.Chain.{Chain, Beside}
 use Rattle.tally.specs.Tally.{tallyOf}
-use Rattle.memory.specs.declared.Tail.{Tail}
-use Rattle.memory.specs.declared.Front.{Front}
-use Rattle.memory.specs.declared.Head.{Head}
-use Rattle.memory.specs.declared.Head.the-variants.{Plain, Announced}
-use Rattle.memory.specs.declared.Cell.{Cell}
-use Rattle.memory.specs.declared.OldTail.the-variants.{Unset, Set}
-use Rattle.memory.specs.declared.Announcement.{Announcement}
+use Rattle.cells.specs.declared.Tail.{Tail}
+use Rattle.cells.specs.declared.Front.{Front}
+use Rattle.cells.specs.declared.Head.{Head}
+use Rattle.cells.specs.declared.Head.the-variants.{Plain, Announced}
+use Rattle.cells.specs.declared.Cell.{Cell}
+use Rattle.cells.specs.declared.OldTail.the-variants.{Unset, Set}
+use Rattle.cells.specs.declared.Announcement.{Announcement}
 use Rattle.memory.specs.Memory.{announcementAt}
 use Rattle.order.proofs.Ghost.{Ghost, Batch}
 use Rattle.order.proofs.Shared.{Shared, next}

@@ -13,10 +13,10 @@ use Rattle.chain.specs.Chain.{Beside}
 use Rattle.chain.proofs.Positions.{within, element, at-right, at-the-end, stays, in-either, there-or-at-the-end, length-one-more}
 use Rattle.chain.proofs.Following.{none-is-the-last}
 use Rattle.chain.proofs.Joining.{joined, stays-beside}
-use Rattle.memory.specs.declared.Tail.{Tail}
-use Rattle.memory.specs.declared.Head.the-variants.{Announced}
-use Rattle.memory.specs.declared.Link.the-variants.{To}
-use Rattle.memory.specs.declared.Announcement.{Announcement}
+use Rattle.cells.specs.declared.Tail.{Tail}
+use Rattle.cells.specs.declared.Head.the-variants.{Announced}
+use Rattle.cells.specs.declared.Link.the-variants.{To}
+use Rattle.cells.specs.declared.Announcement.{Announcement}
 use Rattle.memory.specs.Memory.{announcementAt}
 use Rattle.order.proofs.Ghost.{Ghost, Batch, joins}
 use Rattle.order.proofs.Shared.{Shared, next, linked, withLinks, next-of-linked, next-of-others}

@@ -5,8 +5,8 @@ use mathlib.Core.List.{List}
 use native.Mathlib.Omega.{arith}
 use Rattle.chain.specs.Positions.{At}
 use Rattle.chain.proofs.Positions.{within}
-use Rattle.memory.specs.declared.Tail.{Tail}
-use Rattle.memory.specs.declared.Announcement.{Announcement}
+use Rattle.cells.specs.declared.Tail.{Tail}
+use Rattle.cells.specs.declared.Announcement.{Announcement}
 use Rattle.order.proofs.Ghost.{Ghost, Batch}
 use Rattle.order.proofs.Shared.{Shared}
 use Rattle.order.proofs.Invariant.{Linked, InvEnds, InvTail, Shape, Inv}

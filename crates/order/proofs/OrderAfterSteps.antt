@@ -11,11 +11,12 @@ use lib.Seq.{set-set}
 use Rattle.chain.specs.Positions.{at}
 use Rattle.chain.proofs.Positions.{none-is-not-some}
 use Rattle.memory.specs.Memory.{Memory, perform}
-use Rattle.thread.specs.declared.Place.{Place}
-use Rattle.thread.specs.declared.Place.the-variants.{Idle}
-use Rattle.thread.specs.declared.After.{After}
-use Rattle.thread.specs.declared.After.the-variants as afterwards
-use Rattle.thread.specs.Place.{access, after, placeAfter}
+use Rattle.place.specs.declared.Place.{Place}
+use Rattle.place.specs.declared.Place.the-variants.{Idle}
+use Rattle.place.specs.declared.After.{After}
+use Rattle.place.specs.declared.After.the-variants as afterwards
+use Rattle.place.specs.Place.{placeAfter}
+use Rattle.thread.specs.Calls.{access, after}
 use Rattle.row.specs.declared.Row.{Row}
 use Rattle.row.specs.Row.{placed, cleared}
 use Rattle.machine.specs.declared.Machine.{Machine}

@@ -7,19 +7,19 @@ use mathlib.Core.Logic.{inl, inr}
 use native.Mathlib.Omega.{arith}
 use Rattle.chain.specs.Positions.{In}
 use Rattle.tally.specs.Fifo.{Call}
-use Rattle.memory.specs.declared.Head.{Head}
-use Rattle.memory.specs.declared.Head.the-variants as head
-use Rattle.memory.specs.declared.Request.{Request}
+use Rattle.cells.specs.declared.Head.{Head}
+use Rattle.cells.specs.declared.Head.the-variants as head
+use Rattle.cells.specs.declared.Request.{Request}
 use Rattle.memory.specs.Memory.{announcementAt}
-use Rattle.thread.specs.declared.Place.{Place}
-use Rattle.thread.specs.declared.Place.the-variants as place
-use Rattle.thread.specs.declared.Place.the-variants.{Idle, Enqueue, Dequeue, Dequeues, Running}
-use Rattle.thread.specs.declared.Resume.{Resume}
-use Rattle.thread.specs.declared.Resume.the-variants as resume
-use Rattle.thread.specs.declared.dequeues.DequeuesStep.{DequeuesStep}
-use Rattle.thread.specs.declared.dequeues.DequeuesStep.the-variants.{Q1, Q2, Q3}
+use Rattle.place.specs.declared.Place.{Place}
+use Rattle.place.specs.declared.Place.the-variants as place
+use Rattle.place.specs.declared.Place.the-variants.{Idle, Enqueue, Dequeue, Dequeues, Running}
+use Rattle.place.specs.declared.Resume.{Resume}
+use Rattle.place.specs.declared.Resume.the-variants as resume
+use Rattle.place.specs.declared.DequeuesStep.{DequeuesStep}
+use Rattle.place.specs.declared.DequeuesStep.the-variants.{Q1, Q2, Q3}
 use Rattle.row.specs.declared.Row.{Row}
-use Rattle.call.specs.declared.answer.Future.{Future}
+use Rattle.answer.specs.declared.Future.{Future}
 use Rattle.machine.specs.declared.Machine.{Machine}
 use Rattle.order.specs.Order.{Called, Given, Remembered, Story, of}
 use Rattle.order.proofs.Ghost.{Ghost}

@@ -11,14 +11,14 @@ use Rattle.thread.specs.Enqueue.{enqueueAccess, enqueueAfter}
 use Rattle.thread.specs.Dequeue.{dequeueAccess, dequeueAfter}
 use Rattle.thread.specs.Batch.{batchAccess, batchAfter}
 use Rattle.thread.specs.Dequeues.{dequeuesAccess, dequeuesAfter}
-use Rattle.thread.specs.Running.{runAccess, runAfter}
+use Rattle.running.specs.Running.{runAccess, runAfter}
 use Rattle.call.specs.declared.entry.Entry.{Entry}
 use Rattle.call.specs.declared.entry.Entry.the-variants.{Enqueue, Dequeue, FutureEnqueue, FutureDequeue, Evaluate, Step, Run}
 use Rattle.machine.specs.declared.Machine.{Machine}
 use Rattle.machine.specs.State.{freshMachine}
 use Rattle.machine.specs.Steps.{hop, advance}
 use Rattle.machine.specs.Pairing.{pairFrom, pairing, settled}
-use Rattle.machine.specs.Contents.{abstractHead, chainAfter, contents}
+use Rattle.contents.specs.Contents.{abstractHead, chainAfter, contents}
 use Rattle.machine.specs.Entries.{decided, linkedBehind, deferEnqueue, deferDequeue, setOff, startEnqueue, startDequeue, evaluateWaiting, evaluateOwn, evaluateKnown, evaluate, enqueue as enqueueEntry, dequeue as dequeueEntry, futureEnqueue, futureDequeue, run, apply}
 use Rattle.order.specs.Events.{keptBeside, runEvents, entryEvents, events}
 use Rattle.order.specs.Order.{Effect, Given, Story, putIn, storyOf}

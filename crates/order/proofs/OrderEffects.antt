@@ -12,10 +12,10 @@ use Rattle.chain.proofs.Positions.{none-is-not-some, within, at-left, at-right,
 use Rattle.tally.specs.Fifo.{Call, results, successful}
 use Rattle.tally.specs.Excess.{enqueued, dequeues}
 use Rattle.tally.proofs.Counts.{successful-is, excess-le-dequeues}
-use Rattle.thread.specs.declared.Place.the-variants.{Idle}
-use Rattle.thread.specs.declared.After.{After}
+use Rattle.place.specs.declared.Place.the-variants.{Idle}
+use Rattle.place.specs.declared.After.{After}
 use Rattle.row.specs.declared.Row.{Row}
-use Rattle.call.specs.declared.answer.Item.{Item}
+use Rattle.answer.specs.declared.Item.{Item}
 use Rattle.machine.specs.declared.Machine.{Machine}
 use Rattle.machine.specs.State.{rowAt}
 use Rattle.order.specs.Order.{Called, Effect, Story, of, nowLast}

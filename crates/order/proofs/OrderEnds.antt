@@ -12,15 +12,15 @@ use Rattle.tally.specs.Fifo.{Result, ok, item, empty, results}
 use Rattle.tally.specs.Excess.{enqueued, enqueues}
 use Rattle.tally.specs.declared.Tally.{Tally}
 use Rattle.chain.specs.Chain.{Chain}
-use Rattle.memory.specs.declared.Cell.{Cell}
+use Rattle.cells.specs.declared.Cell.{Cell}
 use Rattle.memory.specs.Memory.{Memory, announcementAt}
-use Rattle.thread.specs.declared.After.{After}
-use Rattle.thread.specs.declared.After.the-variants as afterwards
-use Rattle.thread.specs.Place.{placeAfter}
+use Rattle.place.specs.declared.After.{After}
+use Rattle.place.specs.declared.After.the-variants as afterwards
+use Rattle.place.specs.Place.{placeAfter}
 use Rattle.row.specs.declared.Row.{Row}
 use Rattle.row.specs.Row.{placed}
-use Rattle.call.specs.declared.answer.Item.{Item}
-use Rattle.call.specs.declared.pairing.Cursor.{Cursor}
+use Rattle.answer.specs.declared.Item.{Item}
+use Rattle.pairing.specs.declared.Cursor.{Cursor}
 use Rattle.machine.specs.declared.Machine.{Machine}
 use Rattle.machine.specs.State.{rowAt, memoryOf, withMemory}
 use Rattle.machine.specs.Steps.{hop, tell, stepOf}

@@ -8,9 +8,9 @@ use lib.Seq.{set-getD}
 use Rattle.chain.specs.Positions.{at}
 use Rattle.chain.proofs.Positions.{none-is-not-some}
 use Rattle.tally.specs.Fifo.{Call, enqueue, dequeue}
-use Rattle.thread.specs.declared.Place.the-variants as place
-use Rattle.thread.specs.declared.enqueue.EnqueueStep.the-variants.{E1}
-use Rattle.thread.specs.declared.dequeue.DequeueStep.the-variants.{D1}
+use Rattle.place.specs.declared.Place.the-variants as place
+use Rattle.place.specs.declared.EnqueueStep.the-variants.{E1}
+use Rattle.place.specs.declared.DequeueStep.the-variants.{D1}
 use Rattle.row.specs.declared.Row.{Row}
 use Rattle.row.specs.Row.{placed, withEnqueue, withDequeue, freshRow, noRow}
 use Rattle.call.specs.Next.{nextNode, nextFuture}

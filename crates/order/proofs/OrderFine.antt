@@ -10,13 +10,13 @@ use lib.ListN.{length, set, take, drop}
 use lib.Seq.{getD-set-same, getD-set-other}
 use Rattle.chain.specs.Positions.{At, In}
 use Rattle.tally.specs.Fifo.{Result, ok, item, empty, results}
-use Rattle.memory.specs.declared.Tail.{Tail}
+use Rattle.cells.specs.declared.Tail.{Tail}
 use Rattle.memory.specs.Memory.{Memory, tailCas}
-use Rattle.thread.specs.declared.Place.the-variants.{Idle}
-use Rattle.thread.specs.declared.After.{After}
-use Rattle.thread.specs.declared.After.the-variants as afterwards
+use Rattle.place.specs.declared.Place.the-variants.{Idle}
+use Rattle.place.specs.declared.After.{After}
+use Rattle.place.specs.declared.After.the-variants as afterwards
 use Rattle.row.specs.declared.Row.{Row}
-use Rattle.call.specs.declared.answer.Item.{Item}
+use Rattle.answer.specs.declared.Item.{Item}
 use Rattle.machine.specs.declared.Machine.{Machine}
 use Rattle.machine.specs.State.{rowAt, memoryOf, withMemory}
 use Rattle.order.specs.Promises.{requestIn}

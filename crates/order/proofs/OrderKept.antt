@@ -11,7 +11,7 @@ use Rattle.chain.proofs.Positions.{within}
 use Rattle.tally.specs.Fifo.{results}
 use Rattle.tally.specs.Excess.{enqueues}
 use Rattle.tally.specs.declared.Tally.{Tally}
-use Rattle.memory.specs.declared.Request.{Request}
+use Rattle.cells.specs.declared.Request.{Request}
 use Rattle.machine.specs.declared.Machine.{Machine}
 use Rattle.order.specs.Promises.{requestIn}
 use Rattle.order.specs.Order.{Called, Effect, Story, of}

@@ -13,10 +13,10 @@ use Rattle.chain.specs.Positions.{at, At, In}
 use Rattle.chain.proofs.Positions.{within, stays, at-the-end, length-one-more, there-or-at-the-end, empty-without-length}
 use Rattle.tally.specs.Excess.{enqueued, enqueues}
 use Rattle.tally.specs.declared.Tally.{Tally}
-use Rattle.thread.specs.declared.Place.{Place}
-use Rattle.thread.specs.declared.Place.the-variants as place
-use Rattle.thread.specs.declared.batch.BatchStep.the-variants.{B1}
-use Rattle.thread.specs.declared.dequeues.DequeuesStep.the-variants.{Q1}
+use Rattle.place.specs.declared.Place.{Place}
+use Rattle.place.specs.declared.Place.the-variants as place
+use Rattle.place.specs.declared.BatchStep.the-variants.{B1}
+use Rattle.place.specs.declared.DequeuesStep.the-variants.{Q1}
 use Rattle.row.specs.declared.Row.{Row}
 use Rattle.row.specs.Row.{calling, request}
 use Rattle.call.specs.Next.{nextAnnouncement}

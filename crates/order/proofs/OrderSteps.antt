@@ -11,13 +11,14 @@ use Rattle.tally.specs.Excess.{enqueued, dequeues}
 use Rattle.tally.specs.declared.Tally.{Tally}
 use Rattle.tally.proofs.OneKind.{dequeues-alone}
 use Rattle.memory.specs.Memory.{Memory, perform}
-use Rattle.thread.specs.declared.Place.{Place}
-use Rattle.thread.specs.declared.Place.the-variants as place
-use Rattle.thread.specs.declared.Place.the-variants.{Idle, Enqueue, Dequeue, Dequeues, Running}
-use Rattle.thread.specs.declared.After.the-variants as afterwards
-use Rattle.thread.specs.declared.dequeues.DequeuesStep.{DequeuesStep}
-use Rattle.thread.specs.declared.dequeues.DequeuesStep.the-variants.{Q1, Q2, Q3}
-use Rattle.thread.specs.Place.{idle, access, after}
+use Rattle.place.specs.declared.Place.{Place}
+use Rattle.place.specs.declared.Place.the-variants as place
+use Rattle.place.specs.declared.Place.the-variants.{Idle, Enqueue, Dequeue, Dequeues, Running}
+use Rattle.place.specs.declared.After.the-variants as afterwards
+use Rattle.place.specs.declared.DequeuesStep.{DequeuesStep}
+use Rattle.place.specs.declared.DequeuesStep.the-variants.{Q1, Q2, Q3}
+use Rattle.place.specs.Place.{idle}
+use Rattle.thread.specs.Calls.{access, after}
 use Rattle.row.specs.declared.Row.{Row}
 use Rattle.machine.specs.declared.Machine.{Machine}
 use Rattle.machine.specs.State.{rowAt, memoryOf, withMemory}

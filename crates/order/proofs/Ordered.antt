@@ -7,7 +7,7 @@ use native.Mathlib.Decide.{ℕ-discrete, decLt}
 use Rattle.chain.specs.Positions.{At}
 use Rattle.chain.proofs.Positions.{one-element}
 use Rattle.call.specs.declared.entry.Entry.{Entry}
-use Rattle.call.specs.declared.answer.Verdict.the-variants.{Accepted}
+use Rattle.answer.specs.declared.Verdict.the-variants.{Accepted}
 use Rattle.call.specs.Refusals.{inRange}
 use Rattle.machine.specs.declared.Machine.{Machine}
 use Rattle.machine.specs.State.{freshMachine}

@@ -8,10 +8,10 @@ use native.Mathlib.Omega.{arith}
 use Rattle.chain.specs.Positions.{At}
 use Rattle.chain.proofs.Positions.{the-only-one}
 use Rattle.tally.specs.Fifo.{Result, ok, item, empty}
-use Rattle.call.specs.declared.answer.Outcome.{Outcome}
-use Rattle.call.specs.declared.answer.Outcome.the-variants as outcome
-use Rattle.call.specs.declared.answer.Outcome.the-variants.{Waiting}
-use Rattle.call.specs.Answer.{answered}
+use Rattle.answer.specs.declared.Outcome.{Outcome}
+use Rattle.answer.specs.declared.Outcome.the-variants as outcome
+use Rattle.answer.specs.declared.Outcome.the-variants.{Waiting}
+use Rattle.answer.specs.Answer.{answered}
 use Rattle.order.specs.Order.{Given, resultsIn, gives}
 use Rattle.order.specs.Outcomes.{outcomeOf}
 

@@ -17,19 +17,19 @@ use Rattle.chain.specs.Chain.{Chain}
 use Rattle.chain.proofs.Positions.{within, drop-from, length-one-more, empty-without-length}
 use Rattle.tally.specs.Fifo.{Call, enqueue, dequeue, after, result, results}
 use Rattle.tally.specs.Excess.{enqueued, enqueues}
-use Rattle.memory.specs.declared.Cell.{Cell}
-use Rattle.memory.specs.declared.Link.{Link}
-use Rattle.memory.specs.declared.Link.the-variants.{None, To}
+use Rattle.cells.specs.declared.Cell.{Cell}
+use Rattle.cells.specs.declared.Link.{Link}
+use Rattle.cells.specs.declared.Link.the-variants.{None, To}
 use Rattle.memory.specs.Memory.{cellAt}
-use Rattle.call.specs.declared.answer.Item.{Item}
-use Rattle.call.specs.declared.answer.Outcome.{Outcome}
-use Rattle.call.specs.declared.answer.Outcome.the-variants as outcome
-use Rattle.call.specs.declared.answer.Future.{Future}
-use Rattle.call.specs.declared.pairing.Supply.{Supply}
-use Rattle.call.specs.declared.pairing.Supply.the-variants.{Batch, Dequeues}
-use Rattle.call.specs.declared.pairing.Cursor.{Cursor}
-use Rattle.call.specs.declared.pairing.Paid.{Paid}
-use Rattle.call.specs.Pairing.{nodeBehind, sameLink, pay, payBatch, payDequeues}
+use Rattle.answer.specs.declared.Item.{Item}
+use Rattle.answer.specs.declared.Outcome.{Outcome}
+use Rattle.answer.specs.declared.Outcome.the-variants as outcome
+use Rattle.answer.specs.declared.Future.{Future}
+use Rattle.pairing.specs.declared.Supply.{Supply}
+use Rattle.pairing.specs.declared.Supply.the-variants.{Batch, Dequeues}
+use Rattle.pairing.specs.declared.Cursor.{Cursor}
+use Rattle.pairing.specs.declared.Paid.{Paid}
+use Rattle.pairing.specs.Pairing.{nodeBehind, sameLink, pay, payBatch, payDequeues}
 use Rattle.machine.specs.State.{noItem}
 use Rattle.order.specs.Outcomes.{outcomeOf}
 use Rattle.order.specs.PairingReads.{Turn, futureAt, withOutcome, turns, batchCursor, dequeuesCursor}

@@ -10,10 +10,10 @@ use Rattle.chain.proofs.Positions.{none-is-not-some}
 use Rattle.tally.specs.Fifo.{Call}
 use Rattle.tally.specs.Tally.{tallyOf}
 use Rattle.tally.specs.declared.Tally.{Tally}
-use Rattle.memory.specs.declared.Cell.{Cell}
-use Rattle.thread.specs.declared.After.{After}
-use Rattle.thread.specs.declared.After.the-variants as afterwards
-use Rattle.thread.specs.Place.{placeAfter}
+use Rattle.cells.specs.declared.Cell.{Cell}
+use Rattle.place.specs.declared.After.{After}
+use Rattle.place.specs.declared.After.the-variants as afterwards
+use Rattle.place.specs.Place.{placeAfter}
 use Rattle.row.specs.declared.Row.{Row}
 use Rattle.row.specs.Row.{placed, noRow}
 use Rattle.machine.specs.declared.Machine.{Machine}

@@ -16,20 +16,20 @@ use Rattle.chain.specs.Positions.{at, At, In}
 use Rattle.chain.specs.Chain.{Chain}
 use Rattle.chain.proofs.Positions.{none-is-not-some, some-injective, within, element}
 use Rattle.tally.specs.Tally.{tallyOf}
-use Rattle.memory.specs.declared.Cell.{Cell}
-use Rattle.memory.specs.declared.Link.{Link}
-use Rattle.memory.specs.declared.Link.the-variants.{None, To}
+use Rattle.cells.specs.declared.Cell.{Cell}
+use Rattle.cells.specs.declared.Link.{Link}
+use Rattle.cells.specs.declared.Link.the-variants.{None, To}
 use Rattle.memory.specs.Memory.{cellAt}
 use Rattle.row.specs.declared.Row.{Row}
-use Rattle.call.specs.declared.answer.Item.{Item}
-use Rattle.call.specs.declared.answer.Outcome.the-variants as outcome
-use Rattle.call.specs.declared.answer.Future.{Future}
-use Rattle.call.specs.declared.pairing.Supply.{Supply}
-use Rattle.call.specs.declared.pairing.Supply.the-variants.{Batch, Dequeues}
-use Rattle.call.specs.declared.pairing.Cursor.{Cursor}
-use Rattle.call.specs.declared.pairing.Paid.{Paid}
-use Rattle.call.specs.declared.pairing.Around.{Around}
-use Rattle.call.specs.Pairing.{nodeBehind, sameLink, pay, payBatch, payDequeues, paid}
+use Rattle.answer.specs.declared.Item.{Item}
+use Rattle.answer.specs.declared.Outcome.the-variants as outcome
+use Rattle.answer.specs.declared.Future.{Future}
+use Rattle.pairing.specs.declared.Supply.{Supply}
+use Rattle.pairing.specs.declared.Supply.the-variants.{Batch, Dequeues}
+use Rattle.pairing.specs.declared.Cursor.{Cursor}
+use Rattle.pairing.specs.declared.Paid.{Paid}
+use Rattle.pairing.specs.declared.Around.{Around}
+use Rattle.pairing.specs.Pairing.{nodeBehind, sameLink, pay, payBatch, payDequeues, paid}
 use Rattle.machine.specs.Pairing.{around, pairFrom}
 use Rattle.order.specs.PairingReads.{Turn, turns, resultsOf, enqueuesAmong, batchCursor, dequeuesCursor, LeadsTo, StaysOn, AllStayOn}
 use Rattle.order.proofs.Ghost.{Ghost}

@@ -11,11 +11,11 @@ use lib.ListN.{length, getD, length-set, length-map}
 use lib.Seq.{getD-set-same, getD-set-other}
 use Rattle.chain.specs.Positions.{at, At}
 use Rattle.chain.proofs.Positions.{none-is-not-some, some-injective, within}
-use Rattle.memory.specs.declared.Cell.{Cell}
-use Rattle.call.specs.declared.answer.Item.{Item}
-use Rattle.call.specs.declared.answer.Outcome.{Outcome}
-use Rattle.call.specs.declared.answer.Future.{Future}
-use Rattle.call.specs.declared.pairing.Cursor.{Cursor}
+use Rattle.cells.specs.declared.Cell.{Cell}
+use Rattle.answer.specs.declared.Item.{Item}
+use Rattle.answer.specs.declared.Outcome.{Outcome}
+use Rattle.answer.specs.declared.Future.{Future}
+use Rattle.pairing.specs.declared.Cursor.{Cursor}
 use Rattle.machine.specs.State.{noFuture}
 use Rattle.machine.specs.Pairing.{pairFrom}
 use Rattle.order.specs.PairingReads.{Turn, turns, resultsOf}

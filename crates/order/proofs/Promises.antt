@@ -12,14 +12,14 @@ use Rattle.chain.specs.Positions.{at, At, In}
 use Rattle.chain.specs.Chain.{Chain}
 use Rattle.chain.proofs.Positions.{some-injective, within, element, at-left}
 use Rattle.chain.proofs.Following.{meets-the-rest}
-use Rattle.memory.specs.declared.Link.the-variants.{To}
+use Rattle.cells.specs.declared.Link.the-variants.{To}
 use Rattle.memory.specs.Memory.{cellAt}
-use Rattle.thread.specs.declared.Place.{Place}
-use Rattle.thread.specs.declared.Place.the-variants.{Idle, Enqueue, Dequeue, Batch, Dequeues, Running}
-use Rattle.thread.specs.declared.dequeues.DequeuesStep.the-variants.{Q1, Q2, Q3}
-use Rattle.thread.specs.declared.running.RunStep.the-variants.{A1, A2, A3, A4, A5, A6, A7, A8}
+use Rattle.place.specs.declared.Place.{Place}
+use Rattle.place.specs.declared.Place.the-variants.{Idle, Enqueue, Dequeue, Batch, Dequeues, Running}
+use Rattle.place.specs.declared.DequeuesStep.the-variants.{Q1, Q2, Q3}
+use Rattle.place.specs.declared.RunStep.the-variants.{A1, A2, A3, A4, A5, A6, A7, A8}
 use Rattle.row.specs.declared.Row.{Row}
-use Rattle.call.specs.declared.answer.Verdict.the-variants.{Accepted}
+use Rattle.answer.specs.declared.Verdict.the-variants.{Accepted}
 use Rattle.call.specs.declared.entry.Entry.{Entry}
 use Rattle.call.specs.Refusals.{inRange}
 use Rattle.machine.specs.declared.Machine.{Machine}

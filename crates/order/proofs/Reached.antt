@@ -10,11 +10,11 @@ use Rattle.chain.proofs.Positions.{none-is-not-some, some-injective, within, pa
 use Rattle.tally.specs.Fifo.{Call}
 use Rattle.tally.specs.Tally.{tallyOf}
 use Rattle.tally.proofs.Counts.{tally-of-none}
-use Rattle.memory.specs.declared.Cell.{Cell}
-use Rattle.memory.specs.declared.Front.{Front}
+use Rattle.cells.specs.declared.Cell.{Cell}
+use Rattle.cells.specs.declared.Front.{Front}
 use Rattle.memory.specs.Memory.{noCell, noAnnouncement}
 use Rattle.row.specs.Row.{freshRow, noRow}
-use Rattle.call.specs.declared.answer.Verdict.the-variants.{Accepted}
+use Rattle.answer.specs.declared.Verdict.the-variants.{Accepted}
 use Rattle.call.specs.declared.entry.Entry.{Entry}
 use Rattle.call.specs.Refusals.{inRange}
 use Rattle.call.proofs.Accepted.{in-range}

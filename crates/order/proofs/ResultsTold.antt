@@ -11,15 +11,15 @@ use lib.Dec.{eqb}
 use lib.ListN.{getD}
 use Rattle.refusal.specs.declared.Refusal.the-variants.{NotOwnFuture}
 use Rattle.tally.specs.Fifo.{Result}
-use Rattle.call.specs.declared.answer.Outcome.{Outcome}
-use Rattle.call.specs.declared.answer.Outcome.the-variants as outcome
-use Rattle.call.specs.declared.answer.Answer.{Answer}
-use Rattle.call.specs.declared.answer.Answer.the-variants as answer
-use Rattle.call.specs.declared.answer.Verdict.{Verdict}
-use Rattle.call.specs.declared.answer.Verdict.the-variants.{Accepted, Refused}
+use Rattle.answer.specs.declared.Outcome.{Outcome}
+use Rattle.answer.specs.declared.Outcome.the-variants as outcome
+use Rattle.answer.specs.declared.Answer.{Answer}
+use Rattle.answer.specs.declared.Answer.the-variants as answer
+use Rattle.answer.specs.declared.Verdict.{Verdict}
+use Rattle.answer.specs.declared.Verdict.the-variants.{Accepted, Refused}
 use Rattle.call.specs.declared.entry.Entry.{Entry}
 use Rattle.call.specs.declared.entry.Entry.the-variants as entry
-use Rattle.call.specs.Answer.{answered}
+use Rattle.answer.specs.Answer.{answered}
 use Rattle.call.specs.Refusals.{whereAccepted, foreign, inRange, lacking, evaluateNeeds}
 use Rattle.machine.specs.declared.Machine.{Machine}
 use Rattle.machine.specs.declared.Told.{Told}

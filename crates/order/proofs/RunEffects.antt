@@ -18,24 +18,24 @@ use Rattle.tally.specs.Excess.{enqueued, enqueues}
 use Rattle.tally.specs.Tally.{tallyOf, successfulOn}
 use Rattle.tally.specs.declared.Tally.{Tally}
 use Rattle.tally.proofs.Counts.{successful-is}
-use Rattle.memory.specs.declared.Head.{Head}
-use Rattle.memory.specs.declared.Head.the-variants.{Plain, Announced}
-use Rattle.memory.specs.declared.Front.{Front}
-use Rattle.memory.specs.declared.Tail.{Tail}
-use Rattle.memory.specs.declared.Link.{Link}
-use Rattle.memory.specs.declared.Link.the-variants.{None, To}
-use Rattle.memory.specs.declared.Announcement.{Announcement}
-use Rattle.memory.specs.Ends.{pastFront, pastTail, sameHead, sameTail}
+use Rattle.cells.specs.declared.Head.{Head}
+use Rattle.cells.specs.declared.Head.the-variants.{Plain, Announced}
+use Rattle.cells.specs.declared.Front.{Front}
+use Rattle.cells.specs.declared.Tail.{Tail}
+use Rattle.cells.specs.declared.Link.{Link}
+use Rattle.cells.specs.declared.Link.the-variants.{None, To}
+use Rattle.cells.specs.declared.Announcement.{Announcement}
+use Rattle.cells.specs.Ends.{pastFront, pastTail, sameHead, sameTail}
 use Rattle.memory.specs.Memory.{Memory, cellAt, announcementAt, noAnnouncement, withHead, withLink, withAnnouncement, laidOver, linkCas, headCas, perform}
-use Rattle.memory.specs.Found.{linkIn, takenIn}
-use Rattle.thread.specs.declared.Resume.{Resume}
-use Rattle.thread.specs.declared.Resume.the-variants as resume
-use Rattle.thread.specs.declared.batch.BatchStep.{BatchStep}
-use Rattle.thread.specs.declared.batch.BatchStep.the-variants.{B1, B2}
-use Rattle.thread.specs.declared.running.RunStep.{RunStep}
-use Rattle.thread.specs.declared.running.RunStep.the-variants.{A1, A2, A3, A4, A5, A6, A7, A8}
+use Rattle.cells.specs.Found.{linkIn, takenIn}
+use Rattle.place.specs.declared.Resume.{Resume}
+use Rattle.place.specs.declared.Resume.the-variants as resume
+use Rattle.place.specs.declared.BatchStep.{BatchStep}
+use Rattle.place.specs.declared.BatchStep.the-variants.{B1, B2}
+use Rattle.place.specs.declared.RunStep.{RunStep}
+use Rattle.place.specs.declared.RunStep.the-variants.{A1, A2, A3, A4, A5, A6, A7, A8}
 use Rattle.thread.specs.Batch.{batchAccess, batchAfter, afterB1, afterB2}
-use Rattle.thread.specs.Running.{runAccess, runAfter, runningAt, afterA2, afterA3, afterA6, walkTo, back}
+use Rattle.running.specs.Running.{runAccess, runAfter, runningAt, afterA2, afterA3, afterA6, walkTo, back}
 use Rattle.row.specs.declared.Row.{Row}
 use Rattle.machine.specs.declared.Machine.{Machine}
 use Rattle.machine.specs.State.{memoryOf, withMemory}

@@ -17,17 +17,17 @@ use Rattle.chain.proofs.Following.{none-is-the-last}
 use Rattle.tally.specs.Tally.{successfulOn}
 use Rattle.tally.proofs.Counts.{successful-le-present}
 use Rattle.tally.specs.declared.Tally.{Tally}
-use Rattle.memory.specs.declared.Tail.{Tail}
-use Rattle.memory.specs.declared.Head.the-variants.{Announced}
-use Rattle.memory.specs.declared.Link.{Link}
-use Rattle.memory.specs.declared.Link.the-variants.{None, To}
-use Rattle.memory.specs.declared.OldTail.{OldTail}
-use Rattle.memory.specs.declared.OldTail.the-variants.{Unset, Set}
-use Rattle.memory.specs.declared.Request.{Request}
+use Rattle.cells.specs.declared.Tail.{Tail}
+use Rattle.cells.specs.declared.Head.the-variants.{Announced}
+use Rattle.cells.specs.declared.Link.{Link}
+use Rattle.cells.specs.declared.Link.the-variants.{None, To}
+use Rattle.cells.specs.declared.OldTail.{OldTail}
+use Rattle.cells.specs.declared.OldTail.the-variants.{Unset, Set}
+use Rattle.cells.specs.declared.Request.{Request}
 use Rattle.memory.specs.Memory.{cellAt, announcementAt}
-use Rattle.thread.specs.declared.running.RunStep.{RunStep}
-use Rattle.thread.specs.declared.running.RunStep.the-variants.{A1, A2, A3, A4, A5, A6, A7, A8}
-use Rattle.thread.specs.Running.{afterA2, afterA6, sizeAt, walkTo}
+use Rattle.place.specs.declared.RunStep.{RunStep}
+use Rattle.place.specs.declared.RunStep.the-variants.{A1, A2, A3, A4, A5, A6, A7, A8}
+use Rattle.running.specs.Running.{afterA2, afterA6, sizeAt, walkTo}
 use Rattle.row.specs.declared.Row.{Row}
 use Rattle.order.proofs.Ghost.{Ghost, Batch}
 use Rattle.order.proofs.Shared.{Shared, next, led}

@@ -13,22 +13,22 @@ use Rattle.chain.specs.Positions.{At, In}
 use Rattle.chain.proofs.Positions.{none-is-not-some, some-injective, within, stays, at-the-end, at-is-getD}
 use Rattle.chain.proofs.Following.{none-is-the-last}
 use Rattle.refusal.proofs.Tests.{either-way}
-use Rattle.memory.specs.declared.Tail.{Tail}
-use Rattle.memory.specs.declared.Front.{Front}
-use Rattle.memory.specs.declared.Head.the-variants.{Plain, Announced}
-use Rattle.memory.specs.declared.Link.{Link}
-use Rattle.memory.specs.declared.Link.the-variants.{None, To}
-use Rattle.memory.specs.declared.OldTail.the-variants.{Set}
-use Rattle.memory.specs.declared.Found.{Found}
-use Rattle.memory.specs.declared.Found.the-variants as found
-use Rattle.memory.specs.Ends.{pastTail, pastFront, sameTail, sameHead}
+use Rattle.cells.specs.declared.Tail.{Tail}
+use Rattle.cells.specs.declared.Front.{Front}
+use Rattle.cells.specs.declared.Head.the-variants.{Plain, Announced}
+use Rattle.cells.specs.declared.Link.{Link}
+use Rattle.cells.specs.declared.Link.the-variants.{None, To}
+use Rattle.cells.specs.declared.OldTail.the-variants.{Set}
+use Rattle.cells.specs.declared.Found.{Found}
+use Rattle.cells.specs.declared.Found.the-variants as found
+use Rattle.cells.specs.Ends.{pastTail, pastFront, sameTail, sameHead}
 use Rattle.memory.specs.Memory.{cellAt, announcementAt, reads, linkCas, tailCas, headCas, perform}
-use Rattle.memory.specs.Found.{linkIn}
-use Rattle.thread.specs.declared.Resume.{Resume}
-use Rattle.thread.specs.declared.Resume.the-variants as resume
-use Rattle.thread.specs.declared.running.RunStep.{RunStep}
-use Rattle.thread.specs.declared.running.RunStep.the-variants.{A1, A2, A3, A4, A5, A6, A7, A8}
-use Rattle.thread.specs.Running.{runAccess, runAfter, afterA2, afterA3, afterA6, walkTo, back, runningAt}
+use Rattle.cells.specs.Found.{linkIn}
+use Rattle.place.specs.declared.Resume.{Resume}
+use Rattle.place.specs.declared.Resume.the-variants as resume
+use Rattle.place.specs.declared.RunStep.{RunStep}
+use Rattle.place.specs.declared.RunStep.the-variants.{A1, A2, A3, A4, A5, A6, A7, A8}
+use Rattle.running.specs.Running.{runAccess, runAfter, afterA2, afterA3, afterA6, walkTo, back, runningAt}
 use Rattle.row.specs.declared.Row.{Row}
 use Rattle.order.specs.Links.{ifNone}
 use Rattle.order.proofs.Ghost.{Ghost, Batch, joins, batchOf, noBatch, runGhost}

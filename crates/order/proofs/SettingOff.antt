@@ -11,12 +11,12 @@ use lib.ListN.{length}
 use borrow.Author.Tests.{eqb-true, eqb-false}
 use Rattle.chain.specs.Positions.{At}
 use Rattle.chain.proofs.Positions.{element}
-use Rattle.memory.specs.declared.Request.{Request}
-use Rattle.thread.specs.declared.Place.{Place}
-use Rattle.thread.specs.declared.Place.the-variants as place
-use Rattle.thread.specs.declared.Place.the-variants.{Idle}
-use Rattle.thread.specs.declared.batch.BatchStep.the-variants.{B1}
-use Rattle.thread.specs.declared.dequeues.DequeuesStep.the-variants.{Q1}
+use Rattle.cells.specs.declared.Request.{Request}
+use Rattle.place.specs.declared.Place.{Place}
+use Rattle.place.specs.declared.Place.the-variants as place
+use Rattle.place.specs.declared.Place.the-variants.{Idle}
+use Rattle.place.specs.declared.BatchStep.the-variants.{B1}
+use Rattle.place.specs.declared.DequeuesStep.the-variants.{Q1}
 use Rattle.row.specs.declared.Row.{Row}
 use Rattle.row.specs.Row.{calling, request}
 use Rattle.call.specs.Next.{nextAnnouncement}

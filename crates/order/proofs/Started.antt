@@ -11,16 +11,17 @@ use lib.Seq.{getD-set-same, getD-set-other}
 use Rattle.chain.specs.Positions.{at, At, In}
 use Rattle.chain.proofs.Positions.{none-is-not-some, stays, at-the-end}
 use Rattle.tally.specs.Fifo.{Call, enqueue, dequeue}
-use Rattle.thread.specs.declared.Place.{Place}
-use Rattle.thread.specs.declared.Place.the-variants as place
-use Rattle.thread.specs.declared.Place.the-variants.{Idle}
-use Rattle.thread.specs.declared.After.{After}
-use Rattle.thread.specs.declared.After.the-variants as afterwards
-use Rattle.thread.specs.declared.enqueue.EnqueueStep.the-variants.{E1}
-use Rattle.thread.specs.declared.dequeue.DequeueStep.the-variants.{D1}
-use Rattle.thread.specs.declared.batch.BatchStep.the-variants.{B1}
-use Rattle.thread.specs.declared.dequeues.DequeuesStep.the-variants.{Q1}
-use Rattle.thread.specs.Place.{after, placeAfter}
+use Rattle.place.specs.declared.Place.{Place}
+use Rattle.place.specs.declared.Place.the-variants as place
+use Rattle.place.specs.declared.Place.the-variants.{Idle}
+use Rattle.place.specs.declared.After.{After}
+use Rattle.place.specs.declared.After.the-variants as afterwards
+use Rattle.place.specs.declared.EnqueueStep.the-variants.{E1}
+use Rattle.place.specs.declared.DequeueStep.the-variants.{D1}
+use Rattle.place.specs.declared.BatchStep.the-variants.{B1}
+use Rattle.place.specs.declared.DequeuesStep.the-variants.{Q1}
+use Rattle.place.specs.Place.{placeAfter}
+use Rattle.thread.specs.Calls.{after}
 use Rattle.row.specs.declared.Row.{Row}
 use Rattle.row.specs.Row.{placed, calling, withEnqueue, withDequeue, freshRow, noRow}
 use Rattle.call.specs.Next.{nextNode, nextFuture, nextAnnouncement}

@@ -12,23 +12,24 @@ use Rattle.tally.specs.Excess.{enqueued}
 use Rattle.tally.specs.Tally.{tallyOf}
 use Rattle.tally.specs.declared.Tally.{Tally}
 use Rattle.refusal.proofs.Tests.{either-way}
-use Rattle.memory.specs.declared.Head.the-variants.{Plain}
-use Rattle.memory.specs.declared.Tail.{Tail}
-use Rattle.memory.specs.declared.Link.{Link}
-use Rattle.memory.specs.declared.Link.the-variants.{None, To}
-use Rattle.memory.specs.declared.Request.{Request}
-use Rattle.memory.specs.declared.Found.the-variants as found
-use Rattle.memory.specs.Ends.{sameHead}
+use Rattle.cells.specs.declared.Head.the-variants.{Plain}
+use Rattle.cells.specs.declared.Tail.{Tail}
+use Rattle.cells.specs.declared.Link.{Link}
+use Rattle.cells.specs.declared.Link.the-variants.{None, To}
+use Rattle.cells.specs.declared.Request.{Request}
+use Rattle.cells.specs.declared.Found.the-variants as found
+use Rattle.cells.specs.Ends.{sameHead}
 use Rattle.memory.specs.Memory.{Memory, perform, cellAt, noAnnouncement}
-use Rattle.thread.specs.declared.Place.{Place}
-use Rattle.thread.specs.declared.Place.the-variants.{Idle, Enqueue, Dequeue, Batch, Dequeues, Running}
-use Rattle.thread.specs.declared.Resume.{Resume}
-use Rattle.thread.specs.declared.Resume.the-variants as resume
-use Rattle.thread.specs.declared.After.the-variants as afterwards
-use Rattle.thread.specs.declared.enqueue.EnqueueStep.the-variants.{E1, E2, E3, E4, E5}
-use Rattle.thread.specs.declared.batch.BatchStep.the-variants.{B1, B2}
-use Rattle.thread.specs.declared.running.RunStep.the-variants.{A1, A2, A3, A4, A5, A6, A7, A8}
-use Rattle.thread.specs.Place.{announcementRun, access, after}
+use Rattle.place.specs.declared.Place.{Place}
+use Rattle.place.specs.declared.Place.the-variants.{Idle, Enqueue, Dequeue, Batch, Dequeues, Running}
+use Rattle.place.specs.declared.Resume.{Resume}
+use Rattle.place.specs.declared.Resume.the-variants as resume
+use Rattle.place.specs.declared.After.the-variants as afterwards
+use Rattle.place.specs.declared.EnqueueStep.the-variants.{E1, E2, E3, E4, E5}
+use Rattle.place.specs.declared.BatchStep.the-variants.{B1, B2}
+use Rattle.place.specs.declared.RunStep.the-variants.{A1, A2, A3, A4, A5, A6, A7, A8}
+use Rattle.place.specs.Place.{announcementRun}
+use Rattle.thread.specs.Calls.{access, after}
 use Rattle.row.specs.declared.Row.{Row}
 use Rattle.machine.specs.declared.Machine.{Machine}
 use Rattle.machine.specs.State.{rowAt}

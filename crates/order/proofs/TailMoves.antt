@@ -10,10 +10,10 @@ use native.Mathlib.Decide.{ℕ-discrete}
 use Rattle.chain.specs.Positions.{At, In}
 use Rattle.chain.proofs.Positions.{none-is-not-some, some-injective, one-element, within}
 use Rattle.refusal.proofs.Tests.{either-way}
-use Rattle.memory.specs.declared.Tail.{Tail}
-use Rattle.memory.specs.declared.OldTail.the-variants.{Unset, Set}
+use Rattle.cells.specs.declared.Tail.{Tail}
+use Rattle.cells.specs.declared.OldTail.the-variants.{Unset, Set}
 use Rattle.memory.specs.Memory.{announcementAt}
-use Rattle.memory.specs.Ends.{sameTail, pastTail, up}
+use Rattle.cells.specs.Ends.{sameTail, pastTail, up}
 use Rattle.order.proofs.Ghost.{Ghost}
 use Rattle.order.proofs.Shared.{Shared, withTail, tailIf}
 use Rattle.order.proofs.Invariant.{TailAt, Linked, Shape, Inv}

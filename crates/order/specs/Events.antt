@@ -6,13 +6,13 @@ use mathlib.Core.Bool.{cond}
 use mathlib.Core.List.{List, [], _∷_, _++_}
 use lib.Dec.{eqb}
 use lib.ListN.{getD}
-use Rattle.thread.specs.declared.Place.the-variants as place
-use Rattle.thread.specs.declared.enqueue.EnqueueStep.the-variants.{E1}
-use Rattle.thread.specs.declared.dequeue.DequeueStep.the-variants.{D1}
+use Rattle.place.specs.declared.Place.the-variants as place
+use Rattle.place.specs.declared.EnqueueStep.the-variants.{E1}
+use Rattle.place.specs.declared.DequeueStep.the-variants.{D1}
 use Rattle.row.specs.Row.{placed}
-use Rattle.call.specs.declared.answer.Future.{Future}
-use Rattle.call.specs.declared.answer.Outcome.{Outcome}
-use Rattle.call.specs.declared.answer.Outcome.the-variants as outcome
+use Rattle.answer.specs.declared.Future.{Future}
+use Rattle.answer.specs.declared.Outcome.{Outcome}
+use Rattle.answer.specs.declared.Outcome.the-variants as outcome
 use Rattle.call.specs.declared.entry.Entry.{Entry}
 use Rattle.call.specs.declared.entry.Entry.the-variants as entry
 use Rattle.call.specs.declared.test.Needs.{Needs}

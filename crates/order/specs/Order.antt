@@ -7,23 +7,23 @@ use lib.Dec.{eqb, ltb}
 use lib.ListN.{getD, set, replicate}
 use Rattle.tally.specs.Fifo.{Call, enqueue, dequeue, Result, ok, item, empty, left}
 use Rattle.tally.specs.Excess.{enqueues}
-use Rattle.memory.specs.declared.Head.the-variants.{Plain}
-use Rattle.memory.specs.Ends.{sameHead}
+use Rattle.cells.specs.declared.Head.the-variants.{Plain}
+use Rattle.cells.specs.Ends.{sameHead}
 use Rattle.memory.specs.Memory.{Memory, cellAt}
-use Rattle.thread.specs.declared.Place.{Place}
-use Rattle.thread.specs.declared.Place.the-variants.{Idle, Enqueue, Dequeue, Batch, Dequeues, Running}
-use Rattle.thread.specs.declared.enqueue.EnqueueStep.{EnqueueStep}
-use Rattle.thread.specs.declared.enqueue.EnqueueStep.the-variants.{E1, E2, E3, E4, E5}
-use Rattle.thread.specs.declared.dequeue.DequeueStep.{DequeueStep}
-use Rattle.thread.specs.declared.dequeue.DequeueStep.the-variants.{D1, D2, D3}
-use Rattle.thread.specs.declared.dequeues.DequeuesStep.{DequeuesStep}
-use Rattle.thread.specs.declared.dequeues.DequeuesStep.the-variants.{Q1, Q2, Q3}
-use Rattle.thread.specs.declared.running.RunStep.{RunStep}
-use Rattle.thread.specs.declared.running.RunStep.the-variants.{A1, A2, A3, A4, A5, A6, A7, A8}
-use Rattle.call.specs.declared.answer.Answer.{Answer}
-use Rattle.call.specs.declared.answer.Answer.the-variants as answer
+use Rattle.place.specs.declared.Place.{Place}
+use Rattle.place.specs.declared.Place.the-variants.{Idle, Enqueue, Dequeue, Batch, Dequeues, Running}
+use Rattle.place.specs.declared.EnqueueStep.{EnqueueStep}
+use Rattle.place.specs.declared.EnqueueStep.the-variants.{E1, E2, E3, E4, E5}
+use Rattle.place.specs.declared.DequeueStep.{DequeueStep}
+use Rattle.place.specs.declared.DequeueStep.the-variants.{D1, D2, D3}
+use Rattle.place.specs.declared.DequeuesStep.{DequeuesStep}
+use Rattle.place.specs.declared.DequeuesStep.the-variants.{Q1, Q2, Q3}
+use Rattle.place.specs.declared.RunStep.{RunStep}
+use Rattle.place.specs.declared.RunStep.the-variants.{A1, A2, A3, A4, A5, A6, A7, A8}
+use Rattle.answer.specs.declared.Answer.{Answer}
+use Rattle.answer.specs.declared.Answer.the-variants as answer
 use Rattle.call.specs.declared.entry.Entry.{Entry}
-use Rattle.call.specs.Answer.{answered}
+use Rattle.answer.specs.Answer.{answered}
 use Rattle.call.specs.Next.{nextFuture}
 use Rattle.machine.specs.declared.Machine.{Machine}
 use Rattle.machine.specs.State.{rowAt, memoryOf, noFuture}

@@ -1,8 +1,8 @@
 -- The result of a call on the plain list, as a future that is done holds it.
 use Prim.Native.Nat.{ℕ}
 use Rattle.tally.specs.Fifo.{Result, ok, item, empty}
-use Rattle.call.specs.declared.answer.Outcome.{Outcome}
-use Rattle.call.specs.declared.answer.Outcome.the-variants as outcome
+use Rattle.answer.specs.declared.Outcome.{Outcome}
+use Rattle.answer.specs.declared.Outcome.the-variants as outcome
 
 abbrev pub outcomeOf : Result ℕ → Outcome
 outcomeOf ok = outcome.Ok

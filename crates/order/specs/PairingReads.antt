@@ -6,20 +6,20 @@ use mathlib.Core.Bool.{Bool, true, false, cond}
 use mathlib.Core.List.{List, [], _∷_}
 use lib.ListN.{getD, set}
 use Rattle.chain.specs.Positions.{At, In}
-use Rattle.memory.specs.declared.Cell.{Cell}
-use Rattle.memory.specs.declared.Link.{Link}
-use Rattle.memory.specs.declared.Link.the-variants.{To}
+use Rattle.cells.specs.declared.Cell.{Cell}
+use Rattle.cells.specs.declared.Link.{Link}
+use Rattle.cells.specs.declared.Link.the-variants.{To}
 use Rattle.memory.specs.Memory.{cellAt}
-use Rattle.thread.specs.declared.After.{After}
-use Rattle.thread.specs.declared.After.the-variants as afterwards
-use Rattle.call.specs.declared.answer.Item.{Item}
-use Rattle.call.specs.declared.answer.Outcome.{Outcome}
-use Rattle.call.specs.declared.answer.Outcome.the-variants as outcome
-use Rattle.call.specs.declared.answer.Future.{Future}
-use Rattle.call.specs.declared.pairing.Supply.{Supply}
-use Rattle.call.specs.declared.pairing.Supply.the-variants.{Batch, Dequeues}
-use Rattle.call.specs.declared.pairing.Cursor.{Cursor}
-use Rattle.call.specs.Pairing.{nextOf}
+use Rattle.place.specs.declared.After.{After}
+use Rattle.place.specs.declared.After.the-variants as afterwards
+use Rattle.answer.specs.declared.Item.{Item}
+use Rattle.answer.specs.declared.Outcome.{Outcome}
+use Rattle.answer.specs.declared.Outcome.the-variants as outcome
+use Rattle.answer.specs.declared.Future.{Future}
+use Rattle.pairing.specs.declared.Supply.{Supply}
+use Rattle.pairing.specs.declared.Supply.the-variants.{Batch, Dequeues}
+use Rattle.pairing.specs.declared.Cursor.{Cursor}
+use Rattle.pairing.specs.Pairing.{nextOf}
 use Rattle.machine.specs.declared.Machine.{Machine}
 use Rattle.machine.specs.State.{rowAt, noFuture}
 use Rattle.machine.specs.Pairing.{done, paidTo}

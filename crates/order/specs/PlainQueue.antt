@@ -8,13 +8,13 @@ use mathlib.Core.Option.{Option, none, some}
 use lib.ListN.{getD}
 use Rattle.chain.specs.Positions.{At, In}
 use Rattle.tally.specs.Fifo.{Result, left, results}
-use Rattle.thread.specs.declared.Place.the-variants.{Enqueue, Dequeue}
-use Rattle.call.specs.declared.answer.Outcome.the-variants.{Waiting}
+use Rattle.place.specs.declared.Place.the-variants.{Enqueue, Dequeue}
+use Rattle.answer.specs.declared.Outcome.the-variants.{Waiting}
 use Rattle.call.specs.declared.entry.Entry.{Entry}
 use Rattle.call.specs.declared.entry.Entry.the-variants as entry
 use Rattle.machine.specs.declared.Machine.{Machine}
 use Rattle.machine.specs.State.{noFuture}
-use Rattle.machine.specs.Contents as machine
+use Rattle.contents.specs.Contents as machine
 use Rattle.machine.specs.Entries.{apply}
 use Rattle.order.specs.Reached.{after}
 use Rattle.order.specs.Events.{afterEvents, events}

@@ -10,30 +10,30 @@ use mathlib.Core.Logic.{_⊎_}
 use lib.ListN.{length}
 use Rattle.chain.specs.Positions.{At, In, Once}
 use Rattle.chain.specs.Chain.{following}
-use Rattle.memory.specs.declared.Cell.{Cell}
-use Rattle.memory.specs.declared.Tail.{Tail}
-use Rattle.memory.specs.declared.Front.{Front}
-use Rattle.memory.specs.declared.Head.{Head}
-use Rattle.memory.specs.declared.Head.the-variants.{Plain, Announced}
-use Rattle.memory.specs.declared.Link.the-variants.{None, To}
-use Rattle.memory.specs.declared.OldTail.the-variants.{Set}
-use Rattle.memory.specs.declared.Request.{Request}
+use Rattle.cells.specs.declared.Cell.{Cell}
+use Rattle.cells.specs.declared.Tail.{Tail}
+use Rattle.cells.specs.declared.Front.{Front}
+use Rattle.cells.specs.declared.Head.{Head}
+use Rattle.cells.specs.declared.Head.the-variants.{Plain, Announced}
+use Rattle.cells.specs.declared.Link.the-variants.{None, To}
+use Rattle.cells.specs.declared.OldTail.the-variants.{Set}
+use Rattle.cells.specs.declared.Request.{Request}
 use Rattle.memory.specs.Memory.{Memory, cellAt, announcementAt}
-use Rattle.thread.specs.declared.Place.{Place}
-use Rattle.thread.specs.declared.Place.the-variants.{Idle, Enqueue, Dequeue, Batch, Dequeues, Running}
-use Rattle.thread.specs.declared.Resume.{Resume}
-use Rattle.thread.specs.declared.enqueue.EnqueueStep.{EnqueueStep}
-use Rattle.thread.specs.declared.enqueue.EnqueueStep.the-variants.{E1, E2, E3, E4, E5}
-use Rattle.thread.specs.declared.dequeues.DequeuesStep.{DequeuesStep}
-use Rattle.thread.specs.declared.dequeues.DequeuesStep.the-variants.{Q1, Q2, Q3}
-use Rattle.thread.specs.declared.running.RunStep.{RunStep}
-use Rattle.thread.specs.declared.running.RunStep.the-variants.{A1, A2, A3, A4, A5, A6, A7, A8}
-use Rattle.thread.specs.Running.{walkTo}
+use Rattle.place.specs.declared.Place.{Place}
+use Rattle.place.specs.declared.Place.the-variants.{Idle, Enqueue, Dequeue, Batch, Dequeues, Running}
+use Rattle.place.specs.declared.Resume.{Resume}
+use Rattle.place.specs.declared.EnqueueStep.{EnqueueStep}
+use Rattle.place.specs.declared.EnqueueStep.the-variants.{E1, E2, E3, E4, E5}
+use Rattle.place.specs.declared.DequeuesStep.{DequeuesStep}
+use Rattle.place.specs.declared.DequeuesStep.the-variants.{Q1, Q2, Q3}
+use Rattle.place.specs.declared.RunStep.{RunStep}
+use Rattle.place.specs.declared.RunStep.the-variants.{A1, A2, A3, A4, A5, A6, A7, A8}
+use Rattle.running.specs.Running.{walkTo}
 use Rattle.call.specs.declared.entry.Entry.{Entry}
 use Rattle.machine.specs.declared.Machine.{Machine}
 use Rattle.machine.specs.State.{rowAt, memoryOf}
 use Rattle.machine.specs.Steps.{hop}
-use Rattle.machine.specs.Contents.{walked, leadsTo, abstractHead, chainAfter}
+use Rattle.contents.specs.Contents.{walked, leadsTo, abstractHead, chainAfter}
 use Rattle.order.specs.Links.{next, nodesFrom, ifNone}
 use Rattle.order.specs.Events.{Event, EnqueueStarts, DequeueStarts, EnqueueDeferred, DequeueDeferred, BatchSetOff, FutureAsked, StepTaken, keptBeside, events}
 use Rattle.order.specs.Fits.{Fits}

@@ -6,10 +6,10 @@ use lib.Dec.{eqb}
 use lib.ListN.{set, replicate}
 use Rattle.tally.specs.Tally.{nothingPending, up}
 use Rattle.tally.specs.Tally as tally
-use Rattle.memory.specs.declared.Request.{Request}
-use Rattle.memory.specs.Memory.{noFront}
-use Rattle.thread.specs.declared.Place.{Place}
-use Rattle.thread.specs.declared.Place.the-variants.{Idle}
+use Rattle.cells.specs.declared.Request.{Request}
+use Rattle.cells.specs.Ends.{noFront}
+use Rattle.place.specs.declared.Place.{Place}
+use Rattle.place.specs.declared.Place.the-variants.{Idle}
 use Rattle.row.specs.declared.Row.{Row}
 
 abbrev pub freshRow : Row

@@ -1,11 +1,11 @@
 // One thread's row: its place, its pending calls and their tally, and the batch's nodes.
 ghost use mathlib.Core.Path.{_≡_};
 ghost use Rattle.row.specs.Row.{freshRow, placed, calling, firstWith, withEnqueue, withDequeue, cleared, request};
-use memory::DequeueCount;
-use memory::Front;
-use memory::Request;
+use cells::DequeueCount;
+use cells::Front;
+use cells::Request;
+use place::Place;
 use tally::Tally;
-use thread::Place;
 
 // Pending calls are held by their futures, in calling order; `count` of them. `first` and `last` are the
 // nodes of the first and the last pending enqueue, where there is one. `future` is the future whose result

@@ -16,7 +16,7 @@ use Rattle.numbers.specs.declared.Reading.the-variants.{Number, Refused}
 use Rattle.numbers.proofs.Within.{refused-by-10-or-11}
 use Rattle.numbers.specs.Read.{lastGroup, before, following, number, numberAt, Bytes}
 use Rattle.call.specs.declared.entry.Entry.{Entry}
-use Rattle.call.specs.declared.answer.Verdict.the-variants as verdict
+use Rattle.answer.specs.declared.Verdict.the-variants as verdict
 use Rattle.schedule.specs.declared.read.SetUpReading.the-variants as setup
 use Rattle.schedule.specs.declared.read.EntryReading.{EntryReading}
 use Rattle.schedule.specs.declared.read.EntryReading.the-variants as entry

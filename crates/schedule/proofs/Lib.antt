@@ -8,3 +8,4 @@ pub mod Written
 pub mod Endings
 pub mod OneEncoding
 pub mod Refused
+pub mod Determined

@@ -8,8 +8,8 @@ use Rattle.refusal.specs.declared.Refusal.{Refusal}
 use Rattle.lent.specs.declared.Writing.the-variants.{Wrote, Refused}
 use Rattle.lent.specs.Lent.{writing, written}
 use Rattle.lent.proofs.Laws.{refusal-changes-nothing, accepted-changes-only-these}
-use Rattle.call.specs.declared.answer.Verdict.{Verdict}
-use Rattle.call.specs.declared.answer.Verdict.the-variants as verdict
+use Rattle.answer.specs.declared.Verdict.{Verdict}
+use Rattle.answer.specs.declared.Verdict.the-variants as verdict
 use Rattle.call.specs.Refusals.{whereAccepted, inRange}
 use Rattle.schedule.specs.Write.{answerWhereAccepted, isCode, setUpBytes, entryBytes, setUpWriting, setUpWritten, entryWriting, entryWritten}
 

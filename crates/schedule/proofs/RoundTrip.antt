@@ -17,8 +17,8 @@ use Rattle.lent.specs.declared.Writing.the-variants.{Wrote}
 use Rattle.lent.specs.Lent.{writing, written}
 use Rattle.lent.proofs.Laws.{written-fits, accepted-fits}
 use Rattle.call.specs.declared.entry.Entry.{Entry}
-use Rattle.call.specs.declared.answer.Verdict.{Verdict}
-use Rattle.call.specs.declared.answer.Verdict.the-variants.{Accepted, Refused}
+use Rattle.answer.specs.declared.Verdict.{Verdict}
+use Rattle.answer.specs.declared.Verdict.the-variants.{Accepted, Refused}
 use Rattle.call.specs.Refusals.{whereAccepted, inRange}
 use Rattle.call.proofs.Accepted.{in-range}
 use Rattle.schedule.specs.declared.read.SetUpReading.the-variants.{SetUp}

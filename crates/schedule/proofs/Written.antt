@@ -10,7 +10,7 @@ use Rattle.numbers.specs.Read.{numberAt, Bytes}
 use Rattle.numbers.specs.Write.{groupsOf}
 use Rattle.numbers.proofs.OneEncoding.{what-reads-is-written}
 use Rattle.call.specs.declared.entry.Entry.{Entry}
-use Rattle.call.specs.declared.answer.Verdict.the-variants.{Accepted}
+use Rattle.answer.specs.declared.Verdict.the-variants.{Accepted}
 use Rattle.call.specs.Refusals.{inRange}
 use Rattle.schedule.specs.declared.read.SetUpReading.the-variants.{SetUp}
 use Rattle.schedule.specs.declared.read.EntryReading.the-variants as entry

@@ -9,8 +9,8 @@ use Rattle.numbers.specs.Write.{groupsOf}
 use Rattle.lent.specs.declared.Writing.{Writing}
 use Rattle.lent.specs.declared.Writing.the-variants.{Refused}
 use Rattle.lent.specs.Lent.{writing, written}
-use Rattle.call.specs.declared.answer.Verdict.{Verdict}
-use Rattle.call.specs.declared.answer.Verdict.the-variants as verdict
+use Rattle.answer.specs.declared.Verdict.{Verdict}
+use Rattle.answer.specs.declared.Verdict.the-variants as verdict
 use Rattle.call.specs.Refusals.{whereAccepted, inRange}
 use Rattle.schedule.specs.Codes.{operands}
 

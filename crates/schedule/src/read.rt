@@ -3,7 +3,7 @@ ghost use mathlib.Core.Path.{_≡_};
 ghost use Prim.Native.Nat.{_≤_};
 ghost use Rattle.schedule.specs.Read.{why, setUpOf, tested, entryAt, threadAt, secondAt};
 use crate::code;
-use call::answer::Verdict;
+use answer::Verdict;
 use call::entry::Entry;
 use numbers::Reading;
 use refusal::Refusal;

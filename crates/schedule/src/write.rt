@@ -7,7 +7,7 @@ ghost use Rattle.numbers.specs.Write.{groupsOf};
 ghost use Rattle.lent.specs.Lent.{writing, written, writtenAt};
 ghost use Rattle.schedule.specs.Write.{setUpWriting, setUpWritten, entryWriting, entryWritten, pairBytes, tripleBytes};
 use crate::code;
-use call::answer::Verdict;
+use answer::Verdict;
 use lent::Writing;
 use refusal::Refusal;
 

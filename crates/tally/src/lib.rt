@@ -23,8 +23,38 @@ impl Tally {
         }
     }
 
-    // The tally with one more enqueue pending, behind the others.
-    pub fn with_enqueue(self) -> Tally
+    // One more enqueue is pending, behind the others: noted in the tally that is lent.
+    pub fn note_enqueue(&mut self)
+        ensures { λ _. ⌜ now (self .exit) ≡ withEnqueue (now (self .entry)) ⌝ }
+    {
+        *self = self.counting_enqueue();
+    }
+
+    // One more dequeue is pending, behind the others: noted in the tally that is lent.
+    pub fn note_dequeue(&mut self)
+        ensures { λ _. ⌜ now (self .exit) ≡ withDequeue (now (self .entry)) ⌝ }
+    {
+        *self = self.counting_dequeue();
+    }
+
+    // The tally with one more enqueue noted in it: lent for that, and handed back.
+    pub fn with_enqueue(mut self) -> Tally
+        ensures { λ r. ⌜ r ≡ withEnqueue self ⌝ }
+    {
+        self.note_enqueue();
+        self
+    }
+
+    // The tally with one more dequeue noted in it: lent for that, and handed back.
+    pub fn with_dequeue(mut self) -> Tally
+        ensures { λ r. ⌜ r ≡ withDequeue self ⌝ }
+    {
+        self.note_dequeue();
+        self
+    }
+
+    // The counters with one more enqueue.
+    fn counting_enqueue(self) -> Tally
         ensures { λ r. ⌜ r ≡ withEnqueue self ⌝ }
     {
         Tally {
@@ -34,8 +64,8 @@ impl Tally {
         }
     }
 
-    // The tally with one more dequeue pending, behind the others.
-    pub fn with_dequeue(self) -> Tally
+    // The counters with one more dequeue: its lead goes into the excess where it is the larger.
+    fn counting_dequeue(self) -> Tally
         ensures { λ r. ⌜ r ≡ withDequeue self ⌝ }
     {
         let dequeues = std::num::wrapping_add_u32(self.dequeues, 1);
@@ -54,8 +84,8 @@ impl Tally {
     }
 }
 
-// a less b, and 0 where b is the larger.
-fn less(a: u32, b: u32) -> u32
+// a less b, and 0 where b is the larger: as 01 takes a size from an excess, and counts from each other.
+pub fn less(a: u32, b: u32) -> u32
     ensures { λ r. ⌜ r ≡ a - b ⌝ }
 {
     if b < a { a - b } else { 0 }

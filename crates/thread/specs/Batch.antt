@@ -1,19 +1,19 @@
 -- 01, "Steps", Batch with an enqueue; listing 4 (lines 31 to 35) with listing 3. The own announcement is own.
 use Prim.Native.Nat.{ℕ}
 use mathlib.Core.Bool.{Bool, true, false}
-use Rattle.memory.specs.declared.Head.{Head}
-use Rattle.memory.specs.declared.Head.the-variants.{Plain, Announced}
+use Rattle.cells.specs.declared.Head.{Head}
+use Rattle.cells.specs.declared.Head.the-variants.{Plain, Announced}
 use Rattle.memory.specs.declared.Access.{Access}
 use Rattle.memory.specs.declared.Access.the-variants.{ReadHead, Announce}
-use Rattle.memory.specs.declared.Found.{Found}
-use Rattle.memory.specs.Found.{headIn, takenIn}
-use Rattle.thread.specs.declared.Place.the-variants as place
-use Rattle.thread.specs.declared.Resume.the-variants as resume
-use Rattle.thread.specs.declared.After.{After}
-use Rattle.thread.specs.declared.After.the-variants as after
-use Rattle.thread.specs.declared.batch.BatchStep.{BatchStep}
-use Rattle.thread.specs.declared.batch.BatchStep.the-variants.{B1, B2}
-use Rattle.thread.specs.declared.running.RunStep.the-variants.{A1}
+use Rattle.cells.specs.declared.Found.{Found}
+use Rattle.cells.specs.Found.{headIn, takenIn}
+use Rattle.place.specs.declared.Place.the-variants as place
+use Rattle.place.specs.declared.Resume.the-variants as resume
+use Rattle.place.specs.declared.After.{After}
+use Rattle.place.specs.declared.After.the-variants as after
+use Rattle.place.specs.declared.BatchStep.{BatchStep}
+use Rattle.place.specs.declared.BatchStep.the-variants.{B1, B2}
+use Rattle.place.specs.declared.RunStep.the-variants.{A1}
 
 -- b1 read head. b2 set the old head and CAS head to the own announcement.
 unfoldable pub batchAccess : ℕ → BatchStep → Access

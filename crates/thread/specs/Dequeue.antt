@@ -1,23 +1,23 @@
 -- 01, "Steps", Dequeue; listing 2 (lines 16 to 21) with listing 3.
 use Prim.Native.Nat.{ℕ}
 use mathlib.Core.Bool.{Bool, true, false}
-use Rattle.memory.specs.declared.Front.{Front}
-use Rattle.memory.specs.declared.Head.{Head}
-use Rattle.memory.specs.declared.Head.the-variants.{Plain, Announced}
-use Rattle.memory.specs.declared.Link.{Link}
-use Rattle.memory.specs.declared.Link.the-variants.{None, To}
+use Rattle.cells.specs.declared.Front.{Front}
+use Rattle.cells.specs.declared.Head.{Head}
+use Rattle.cells.specs.declared.Head.the-variants.{Plain, Announced}
+use Rattle.cells.specs.declared.Link.{Link}
+use Rattle.cells.specs.declared.Link.the-variants.{None, To}
 use Rattle.memory.specs.declared.Access.{Access}
 use Rattle.memory.specs.declared.Access.the-variants.{ReadHead, ReadLink, CasHead}
-use Rattle.memory.specs.declared.Found.{Found}
-use Rattle.memory.specs.Ends.{pastFront}
-use Rattle.memory.specs.Found.{headIn, linkIn, takenIn}
-use Rattle.thread.specs.declared.Place.the-variants as place
-use Rattle.thread.specs.declared.Resume.the-variants as resume
-use Rattle.thread.specs.declared.After.{After}
-use Rattle.thread.specs.declared.After.the-variants as after
-use Rattle.thread.specs.declared.dequeue.DequeueStep.{DequeueStep}
-use Rattle.thread.specs.declared.dequeue.DequeueStep.the-variants.{D1, D2, D3}
-use Rattle.thread.specs.declared.running.RunStep.the-variants.{A1}
+use Rattle.cells.specs.declared.Found.{Found}
+use Rattle.cells.specs.Ends.{pastFront}
+use Rattle.cells.specs.Found.{headIn, linkIn, takenIn}
+use Rattle.place.specs.declared.Place.the-variants as place
+use Rattle.place.specs.declared.Resume.the-variants as resume
+use Rattle.place.specs.declared.After.{After}
+use Rattle.place.specs.declared.After.the-variants as after
+use Rattle.place.specs.declared.DequeueStep.{DequeueStep}
+use Rattle.place.specs.declared.DequeueStep.the-variants.{D1, D2, D3}
+use Rattle.place.specs.declared.RunStep.the-variants.{A1}
 
 -- d1 read head. d2 read next. d3 CAS head to it, count + 1.
 unfoldable pub dequeueAccess : DequeueStep → Access

@@ -2,23 +2,23 @@
 use Prim.Native.Nat.{ℕ}
 use mathlib.Core.Bool.{Bool, true, false, cond}
 use lib.Dec.{eqb, ltb}
-use Rattle.memory.specs.declared.Head.{Head}
-use Rattle.memory.specs.declared.Head.the-variants.{Plain, Announced}
-use Rattle.memory.specs.declared.Link.{Link}
-use Rattle.memory.specs.declared.Link.the-variants.{None, To}
+use Rattle.cells.specs.declared.Head.{Head}
+use Rattle.cells.specs.declared.Head.the-variants.{Plain, Announced}
+use Rattle.cells.specs.declared.Link.{Link}
+use Rattle.cells.specs.declared.Link.the-variants.{None, To}
 use Rattle.memory.specs.declared.Access.{Access}
 use Rattle.memory.specs.declared.Access.the-variants.{ReadHead, ReadLink, CasHead}
-use Rattle.memory.specs.declared.Found.{Found}
-use Rattle.memory.specs.Ends.{up, pastFront}
-use Rattle.memory.specs.Found.{headIn, linkIn, takenIn}
-use Rattle.thread.specs.declared.Place.the-variants as place
-use Rattle.thread.specs.declared.Resume.the-variants as resume
-use Rattle.thread.specs.declared.After.{After}
-use Rattle.thread.specs.declared.After.the-variants as after
-use Rattle.thread.specs.declared.dequeues.Walk.{Walk}
-use Rattle.thread.specs.declared.dequeues.DequeuesStep.{DequeuesStep}
-use Rattle.thread.specs.declared.dequeues.DequeuesStep.the-variants.{Q1, Q2, Q3}
-use Rattle.thread.specs.declared.running.RunStep.the-variants.{A1}
+use Rattle.cells.specs.declared.Found.{Found}
+use Rattle.cells.specs.Ends.{up, pastFront}
+use Rattle.cells.specs.Found.{headIn, linkIn, takenIn}
+use Rattle.place.specs.declared.Place.the-variants as place
+use Rattle.place.specs.declared.Resume.the-variants as resume
+use Rattle.place.specs.declared.After.{After}
+use Rattle.place.specs.declared.After.the-variants as after
+use Rattle.place.specs.declared.Walk.{Walk}
+use Rattle.place.specs.declared.DequeuesStep.{DequeuesStep}
+use Rattle.place.specs.declared.DequeuesStep.the-variants.{Q1, Q2, Q3}
+use Rattle.place.specs.declared.RunStep.the-variants.{A1}
 
 -- q1 read head. q2 read next. q3 CAS head past the s nodes found, count + s.
 unfoldable pub dequeuesAccess : DequeuesStep → Access

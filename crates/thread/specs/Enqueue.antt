@@ -1,23 +1,23 @@
 -- 01, "Steps", Enqueue; listing 1 (lines 4 to 13). The new node is n.
 -- The node and the tail's count that line 13 needs are those that e2 found and e1 read.
 use Prim.Native.Nat.{ℕ}
-use Rattle.memory.specs.declared.Tail.{Tail}
-use Rattle.memory.specs.declared.Head.{Head}
-use Rattle.memory.specs.declared.Head.the-variants.{Plain, Announced}
-use Rattle.memory.specs.declared.Link.{Link}
-use Rattle.memory.specs.declared.Link.the-variants.{None, To}
+use Rattle.cells.specs.declared.Tail.{Tail}
+use Rattle.cells.specs.declared.Head.{Head}
+use Rattle.cells.specs.declared.Head.the-variants.{Plain, Announced}
+use Rattle.cells.specs.declared.Link.{Link}
+use Rattle.cells.specs.declared.Link.the-variants.{None, To}
 use Rattle.memory.specs.declared.Access.{Access}
 use Rattle.memory.specs.declared.Access.the-variants.{ReadHead, ReadTail, CasLink, CasTail}
-use Rattle.memory.specs.declared.Found.{Found}
-use Rattle.memory.specs.Ends.{pastTail}
-use Rattle.memory.specs.Found.{headIn, tailIn, linkIn}
-use Rattle.thread.specs.declared.Place.the-variants as place
-use Rattle.thread.specs.declared.Resume.the-variants as resume
-use Rattle.thread.specs.declared.After.{After}
-use Rattle.thread.specs.declared.After.the-variants as after
-use Rattle.thread.specs.declared.enqueue.EnqueueStep.{EnqueueStep}
-use Rattle.thread.specs.declared.enqueue.EnqueueStep.the-variants.{E1, E2, E3, E4, E5}
-use Rattle.thread.specs.declared.running.RunStep.the-variants.{A1}
+use Rattle.cells.specs.declared.Found.{Found}
+use Rattle.cells.specs.Ends.{pastTail}
+use Rattle.cells.specs.Found.{headIn, tailIn, linkIn}
+use Rattle.place.specs.declared.Place.the-variants as place
+use Rattle.place.specs.declared.Resume.the-variants as resume
+use Rattle.place.specs.declared.After.{After}
+use Rattle.place.specs.declared.After.the-variants as after
+use Rattle.place.specs.declared.EnqueueStep.{EnqueueStep}
+use Rattle.place.specs.declared.EnqueueStep.the-variants.{E1, E2, E3, E4, E5}
+use Rattle.place.specs.declared.RunStep.the-variants.{A1}
 
 -- e1 read tail. e2 CAS the new node onto its next link. e3 CAS tail to the new node, count + 1.
 -- e4 read head. e5 CAS tail to the node found, count + 1.

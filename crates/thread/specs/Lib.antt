@@ -2,5 +2,4 @@ pub mod Enqueue
 pub mod Dequeue
 pub mod Batch
 pub mod Dequeues
-pub mod Running
-pub mod Place
+pub mod Calls

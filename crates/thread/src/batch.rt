@@ -1,38 +1,31 @@
 // 01, "Steps", Batch with an enqueue; listing 4. The announcement handed out to the call is `own`.
 ghost use mathlib.Core.Path.{_≡_};
 ghost use Rattle.thread.specs.Batch.{batchAccess, batchAfter, afterB1, afterB2};
-use crate::After;
-use crate::Place;
-use crate::Resume;
-use crate::running::RunStep;
+use cells::Found;
+use cells::Front;
+use cells::Head;
 use memory::Access;
-use memory::Found;
-use memory::Front;
-use memory::Head;
+use place::After;
+use place::BatchStep;
+use place::Place;
+use place::Resume;
+use place::RunStep;
 
-// b2 holds the head that b1 read.
-pub enum BatchStep {
-    B1,
-    B2(Front),
+pub(crate) fn access(step: BatchStep, own: u8) -> Access
+    ensures { λ r. ⌜ r ≡ batchAccess own step ⌝ }
+{
+    match step {
+        BatchStep::B1 => Access::ReadHead,
+        BatchStep::B2(front) => Access::Announce { own, was: front },
+    }
 }
 
-impl BatchStep {
-    pub(crate) fn access(self, own: u8) -> Access
-        ensures { λ r. ⌜ r ≡ batchAccess own self ⌝ }
-    {
-        match self {
-            BatchStep::B1 => Access::ReadHead,
-            BatchStep::B2(front) => Access::Announce { own, was: front },
-        }
-    }
-
-    pub(crate) fn after(self, own: u8, found: Found) -> After
-        ensures { λ r. ⌜ r ≡ batchAfter own self found ⌝ }
-    {
-        match self {
-            BatchStep::B1 => after_b1(own, found.head()),
-            BatchStep::B2(_) => after_b2(own, found.taken()),
-        }
+pub(crate) fn after(step: BatchStep, own: u8, found: Found) -> After
+    ensures { λ r. ⌜ r ≡ batchAfter own step found ⌝ }
+{
+    match step {
+        BatchStep::B1 => after_b1(own, found.head()),
+        BatchStep::B2(_) => after_b2(own, found.taken()),
     }
 }
 

@@ -1,54 +1,41 @@
 // 01, "Steps", Batch of dequeues only; listing 7.
 ghost use mathlib.Core.Path.{_≡_};
 ghost use Rattle.thread.specs.Dequeues.{dequeuesAccess, dequeuesAfter, stopped, oneFurther, goesTo, afterQ1, afterQ2, afterQ3};
-use crate::After;
-use crate::Place;
-use crate::Resume;
-use crate::running::RunStep;
+use cells::Found;
+use cells::Front;
+use cells::Head;
+use cells::Link;
 use memory::Access;
-use memory::Found;
-use memory::Front;
-use memory::Head;
-use memory::Link;
+use place::After;
+use place::DequeuesStep;
+use place::Place;
+use place::Resume;
+use place::RunStep;
+use place::Walk;
 
-// The head that q1 read, the node reached from it, and how many nodes were found on the way.
-pub struct Walk {
-    pub front: Front,
-    pub at: u16,
-    pub taken: u32,
-}
-
-pub enum DequeuesStep {
-    Q1,
-    Q2(Walk),
-    Q3(Walk),
-}
-
-impl DequeuesStep {
-    pub(crate) fn access(self) -> Access
-        ensures { λ r. ⌜ r ≡ dequeuesAccess self ⌝ }
-    {
-        match self {
-            DequeuesStep::Q1 => Access::ReadHead,
-            DequeuesStep::Q2(walk) => Access::ReadLink { node: walk.at },
-            DequeuesStep::Q3(walk) => {
-                let front = walk.front;
-                Access::CasHead {
-                    was: Head::Plain(front),
-                    to: front.past(walk.at, walk.taken),
-                }
+pub(crate) fn access(step: DequeuesStep) -> Access
+    ensures { λ r. ⌜ r ≡ dequeuesAccess step ⌝ }
+{
+    match step {
+        DequeuesStep::Q1 => Access::ReadHead,
+        DequeuesStep::Q2(walk) => Access::ReadLink { node: walk.at },
+        DequeuesStep::Q3(walk) => {
+            let front = walk.front;
+            Access::CasHead {
+                was: Head::Plain(front),
+                to: front.past(walk.at, walk.taken),
             }
         }
     }
+}
 
-    pub(crate) fn after(self, found: Found, pending: u32) -> After
-        ensures { λ r. ⌜ r ≡ dequeuesAfter self found pending ⌝ }
-    {
-        match self {
-            DequeuesStep::Q1 => after_q1(found.head()),
-            DequeuesStep::Q2(walk) => after_q2(walk, found.link(), pending),
-            DequeuesStep::Q3(walk) => after_q3(walk, found.taken()),
-        }
+pub(crate) fn after(step: DequeuesStep, found: Found, pending: u32) -> After
+    ensures { λ r. ⌜ r ≡ dequeuesAfter step found pending ⌝ }
+{
+    match step {
+        DequeuesStep::Q1 => after_q1(found.head()),
+        DequeuesStep::Q2(walk) => after_q2(walk, found.link(), pending),
+        DequeuesStep::Q3(walk) => after_q3(walk, found.taken()),
     }
 }
 
@@ -69,8 +56,8 @@ fn after_q2(walk: Walk, link: Link, pending: u32) -> After
     ensures { λ r. ⌜ r ≡ afterQ2 walk link pending ⌝ }
 {
     match link {
-        Link::None => walk.stopped(),
-        Link::To(next) => walk.on(next, pending),
+        Link::None => stopped(walk),
+        Link::To(next) => on(walk, next, pending),
     }
 }
 
@@ -87,41 +74,39 @@ fn after_q3(walk: Walk, taken: bool) -> After
     After::On(Place::Dequeues(DequeuesStep::Q1))
 }
 
-impl Walk {
-    // No node behind the one reached: the batch ends where none was found at all.
-    fn stopped(self) -> After
-        ensures { λ r. ⌜ r ≡ stopped self ⌝ }
-    {
-        let front = self.front;
-        if self.taken == 0 {
-            return After::PairDequeues {
-                from: front.node,
-                taken: 0,
-            };
-        }
-        After::On(Place::Dequeues(DequeuesStep::Q3(self)))
-    }
-
-    // One node further.
-    fn on(self, next: u16, pending: u32) -> After
-        ensures { λ r. ⌜ r ≡ goesTo (oneFurther self next) pending ⌝ }
-    {
-        let front = self.front;
-        let walk = Walk {
-            front,
-            at: next,
-            taken: std::num::wrapping_add_u32(self.taken, 1),
+// No node behind the one reached: the batch ends where none was found at all.
+fn stopped(walk: Walk) -> After
+    ensures { λ r. ⌜ r ≡ stopped walk ⌝ }
+{
+    let front = walk.front;
+    if walk.taken == 0 {
+        return After::PairDequeues {
+            from: front.node,
+            taken: 0,
         };
-        walk.goes_to(pending)
     }
+    After::On(Place::Dequeues(DequeuesStep::Q3(walk)))
+}
 
-    // q2 again while another dequeue is pending.
-    fn goes_to(self, pending: u32) -> After
-        ensures { λ r. ⌜ r ≡ goesTo self pending ⌝ }
-    {
-        if self.taken < pending {
-            return After::On(Place::Dequeues(DequeuesStep::Q2(self)));
-        }
-        After::On(Place::Dequeues(DequeuesStep::Q3(self)))
+// One node further.
+fn on(walk: Walk, next: u16, pending: u32) -> After
+    ensures { λ r. ⌜ r ≡ goesTo (oneFurther walk next) pending ⌝ }
+{
+    let front = walk.front;
+    let further = Walk {
+        front,
+        at: next,
+        taken: std::num::wrapping_add_u32(walk.taken, 1),
+    };
+    goes_to(further, pending)
+}
+
+// q2 again while another dequeue is pending.
+fn goes_to(walk: Walk, pending: u32) -> After
+    ensures { λ r. ⌜ r ≡ goesTo walk pending ⌝ }
+{
+    if walk.taken < pending {
+        return After::On(Place::Dequeues(DequeuesStep::Q2(walk)));
     }
+    After::On(Place::Dequeues(DequeuesStep::Q3(walk)))
 }

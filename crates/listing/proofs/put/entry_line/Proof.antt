@@ -2,7 +2,7 @@
 use Prim.Native.Nat.{ℕ}
 use mathlib.Core.List.{List, [], _∷_}
 use native.Mathlib.Omega.{arith}
-use Rattle.call.specs.Answer.{value}
+use Rattle.answer.specs.Answer.{value}
 use Rattle.lent.proofs.Pieces.{put, and, none, all-put, contract}
 use Rattle.listing.specs.Text.{decimal, field, wordField, lineEnd, entryText}
 use Rattle.listing.proofs.Decimals.{decimal-few}

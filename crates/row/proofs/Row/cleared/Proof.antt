@@ -3,11 +3,9 @@ use borrow.Author.Needs.{needs}
 use Rattle.row.proofs.Row.cleared.Statement.{statement}
 use Rattle.row.proofs.Row.cleared.Tie as tie
 
--- src/row.rt:111:20
 none-requires : tie.Need-none-requires
 none-requires c κs = search needs
 
--- src/row.rt:103:5
 returns : tie.Need-returns
 returns c = cc
 

@@ -3,11 +3,9 @@ use borrow.Author.Needs.{needs}
 use Rattle.row.proofs.Row.fresh.Statement.{statement}
 use Rattle.row.proofs.Row.fresh.Tie as tie
 
--- src/row.rt:34:20
 none-requires : tie.Need-none-requires
 none-requires c κs = search needs
 
--- src/row.rt:27:5
 returns : tie.Need-returns
 returns c = simp (c .none .ensures)
 

@@ -3,27 +3,21 @@ use borrow.Author.Needs.{needs}
 use Rattle.row.proofs.Row.with_dequeue.Statement.{statement}
 use Rattle.row.proofs.Row.with_dequeue.Tie as tie
 
--- src/row.rt:94:18
 cast-at : tie.Need-cast-at
 cast-at c = search needs
 
--- src/row.rt:96:9
 mul-self : tie.Need-mul-self
 mul-self c = search needs
 
--- src/row.rt:96:9
 element-write-self : tie.Need-element-write-self
 element-write-self c = search needs
 
--- src/row.rt:97:22
 wrapping-add-u32-requires : tie.Need-wrapping-add-u32-requires
 wrapping-add-u32-requires c κs = search needs
 
--- src/row.rt:98:22
 with-dequeue-requires : tie.Need-with-dequeue-requires
 with-dequeue-requires c κs = search needs
 
--- src/row.rt:91:5
 returns : tie.Need-returns
 returns c = simp (c .with-dequeue .ensures, c .before .wrapping-add-u32 .ensures)
 

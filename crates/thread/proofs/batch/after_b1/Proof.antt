@@ -3,19 +3,15 @@ use borrow.Author.Needs.{needs}
 use Rattle.thread.proofs.batch.after_b1.Statement.{statement}
 use Rattle.thread.proofs.batch.after_b1.Tie as tie
 
--- src/batch.rt:43:21
 enum-known-head : tie.Need-enum-known-head
 enum-known-head c = search needs
 
--- src/batch.rt:44:25
 enum-known-head-2 : tie.Need-enum-known-head-2
 enum-known-head-2 c = search needs
 
--- src/batch.rt:39:1
 returns : tie.Need-returns
 returns c = simp (c .before .head .given .1)
 
--- src/batch.rt:39:1
 returns-2 : tie.Need-returns-2
 returns-2 c = simp (c .before .head2 .given .1)
 

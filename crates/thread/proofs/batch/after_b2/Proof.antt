@@ -2,11 +2,9 @@
 use Rattle.thread.proofs.batch.after_b2.Statement.{statement}
 use Rattle.thread.proofs.batch.after_b2.Tie as tie
 
--- src/batch.rt:52:9
 returns : tie.Need-returns
 returns c = simp (c .if1 .taken)
 
--- src/batch.rt:48:1
 returns-2 : tie.Need-returns-2
 returns-2 c = simp (c .if1 .left)
 

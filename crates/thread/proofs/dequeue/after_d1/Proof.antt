@@ -3,19 +3,15 @@ use borrow.Author.Needs.{needs}
 use Rattle.thread.proofs.dequeue.after_d1.Statement.{statement}
 use Rattle.thread.proofs.dequeue.after_d1.Tie as tie
 
--- src/dequeue.rt:50:21
 enum-known-head : tie.Need-enum-known-head
 enum-known-head c = search needs
 
--- src/dequeue.rt:51:25
 enum-known-head-2 : tie.Need-enum-known-head-2
 enum-known-head-2 c = search needs
 
--- src/dequeue.rt:46:1
 returns : tie.Need-returns
 returns c = simp (c .before .head .given .1)
 
--- src/dequeue.rt:46:1
 returns-2 : tie.Need-returns-2
 returns-2 c = simp (c .before .head2 .given .1)
 

@@ -2,11 +2,9 @@
 use Rattle.thread.proofs.dequeue.after_d3.Statement.{statement}
 use Rattle.thread.proofs.dequeue.after_d3.Tie as tie
 
--- src/dequeue.rt:68:9
 returns : tie.Need-returns
 returns c = simp (c .if1 .taken)
 
--- src/dequeue.rt:64:1
 returns-2 : tie.Need-returns-2
 returns-2 c = simp (c .if1 .left)
 

@@ -3,19 +3,15 @@ use borrow.Author.Needs.{needs}
 use Rattle.thread.proofs.dequeues.after_q1.Statement.{statement}
 use Rattle.thread.proofs.dequeues.after_q1.Tie as tie
 
--- src/dequeues.rt:59:21
 enum-known-head : tie.Need-enum-known-head
 enum-known-head c = search needs
 
--- src/dequeues.rt:64:25
 enum-known-head-2 : tie.Need-enum-known-head-2
 enum-known-head-2 c = search needs
 
--- src/dequeues.rt:55:1
 returns : tie.Need-returns
 returns c = simp (c .before .head .given .1)
 
--- src/dequeues.rt:55:1
 returns-2 : tie.Need-returns-2
 returns-2 c = simp (c .before .head2 .given .1)
 

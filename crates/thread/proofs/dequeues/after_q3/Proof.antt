@@ -2,11 +2,9 @@
 use Rattle.thread.proofs.dequeues.after_q3.Statement.{statement}
 use Rattle.thread.proofs.dequeues.after_q3.Tie as tie
 
--- src/dequeues.rt:82:9
 returns : tie.Need-returns
 returns c = simp (c .if1 .taken)
 
--- src/dequeues.rt:77:1
 returns-2 : tie.Need-returns-2
 returns-2 c = simp (c .if1 .left)
 

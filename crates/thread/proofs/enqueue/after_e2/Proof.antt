@@ -3,19 +3,15 @@ use borrow.Author.Needs.{needs}
 use Rattle.thread.proofs.enqueue.after_e2.Statement.{statement}
 use Rattle.thread.proofs.enqueue.after_e2.Tie as tie
 
--- src/enqueue.rt:63:54
 enum-told : tie.Need-enum-told
 enum-told c = search needs
 
--- src/enqueue.rt:64:18
 enum-known-link : tie.Need-enum-known-link
 enum-known-link c = search needs
 
--- src/enqueue.rt:59:1
 returns : tie.Need-returns
 returns c = simp (c .enum-told .given .1)
 
--- src/enqueue.rt:59:1
 returns-2 : tie.Need-returns-2
 returns-2 c = simp (c .before .link .given .1)
 

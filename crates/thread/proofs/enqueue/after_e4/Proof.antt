@@ -3,19 +3,15 @@ use borrow.Author.Needs.{needs}
 use Rattle.thread.proofs.enqueue.after_e4.Statement.{statement}
 use Rattle.thread.proofs.enqueue.after_e4.Tie as tie
 
--- src/enqueue.rt:72:58
 enum-told : tie.Need-enum-told
 enum-told c = search needs
 
--- src/enqueue.rt:73:25
 enum-known-head : tie.Need-enum-known-head
 enum-known-head c = search needs
 
--- src/enqueue.rt:68:1
 returns : tie.Need-returns
 returns c = simp (c .enum-told .given .1)
 
--- src/enqueue.rt:68:1
 returns-2 : tie.Need-returns-2
 returns-2 c = simp (c .before .head .given .1)
 

@@ -1,0 +1,8 @@
+-- 01, "What the contracts have to say": for all inputs the contract of each public function of the crate determines its outcome.
+use mathlib.Core.Path.{refl}
+use Rattle.contracts.specs.Determined.{Determines}
+use Rattle.contracts.proofs.Told.{nothing-required, together, answer-and-first}
+use Rattle.lent.proofs.put
+
+pub put-determined : {M : Type 1} → Determines M put.ended put.clauses
+put-determined = record { for-all-inputs = nothing-required; one-outcome = λ i x y. together i (answer-and-first refl) }
