@@ -16,6 +16,21 @@ from pathlib import Path
 ROOT = Path(__file__).resolve().parent.parent
 CRATES = ROOT / "crates"
 
+# The empty versions and plausible slips that 01 names, and the edits that try them.
+NAMED = [
+    ("empty version: a machine that refuses everything", "call/refuses_everything"),
+    ("empty version: one answering `empty` always, for futures", "answer/empty_always"),
+    ("empty version: one answering `empty` always, for a Dequeue", "thread/dequeue_answers_empty"),
+    ("empty version: one whose steps do nothing", "memory/steps_do_nothing"),
+    ("empty version: the whole call in its first step, idle after", "thread/whole_call_in_the_first_step"),
+    ("a Run reporting an invented count", "machine/run_reports_an_invented_count"),
+    ("slip: old tail read before the tail at a1", "running/old_tail_before_tail"),
+    ("slip: a late helper at a7 setting the head without comparing", "memory/a7_without_comparing"),
+    ("slip: a short batch of dequeues ordered at q3", "order/short_batch_ordered_at_q3"),
+    ("slip: size from counts read before the tail caught up", "running/size_from_the_tail_of_a1"),
+    ("slip: excess zero when dequeues outnumber enqueues only in the middle", "tally/excess_of_the_whole_only"),
+]
+
 
 def names():
     lines = (ROOT / "crates.txt").read_text().splitlines()
@@ -79,14 +94,21 @@ def main():
         row += [str(lines_in(CRATES / name / part, ".antt")) for part in ("specs", "proofs")]
         print("| " + " | ".join(row) + " |")
 
+    words = {f"{name}/{label}": first_words(name, label).replace("|", "\\|").replace("`", "") for name, label, _ in edits}
+
+    print("\n## The empty versions and slips of 01\n")
+    print("| 01 | edit | the checker's first words |")
+    print("|---|---|---|")
+    for says, edit in NAMED:
+        print(f"| {says} | `{edit}` | {words[edit]} |")
+
     print("\n## Must-fail edits\n")
     print("| edit | what it would do | the checker's first words |")
     print("|---|---|---|")
     for name, label, _ in edits:
         text = (CRATES / name / "must-fail" / f"{label}.edit").read_text()
         says = text.splitlines()[0].removeprefix("# ")
-        words = first_words(name, label).replace("|", "\\|").replace("`", "")
-        print(f"| `{name}/{label}` | {says} | {words} |")
+        print(f"| `{name}/{label}` | {says} | {words[f'{name}/{label}']} |")
 
 
 main()

@@ -1,4 +1,4 @@
--- `call::pairing::pay_batch` meets its contract, test by test.
+-- `pairing::pay_batch` meets its contract, test by test.
 use mathlib.Core.Path.{sym, _∙_}
 use borrow.Author.Needs.{needs}
 use Rattle.pairing.proofs.pay_batch.Statement.{statement}

@@ -1,4 +1,4 @@
--- `call::pairing::pay_dequeues` meets its contract, by whether one is left to succeed.
+-- `pairing::pay_dequeues` meets its contract, by whether one is left to succeed.
 use borrow.Author.Tests.{eq-eqb, ne-eqb}
 use borrow.Author.Needs.{needs}
 use Rattle.pairing.proofs.pay_dequeues.Statement.{statement}

@@ -1,4 +1,4 @@
--- `call::pairing::same_link` meets its contract, by cases on both links.
+-- `pairing::same_link` meets its contract, by cases on both links.
 use borrow.Author.Needs.{needs}
 use Rattle.pairing.proofs.same_link.Statement.{statement}
 use Rattle.pairing.proofs.same_link.Tie as tie

@@ -1,4 +1,4 @@
--- `call::answer::Outcome::answer` meets its contract, by the outcome.
+-- `answer::Outcome::answer` meets its contract, by the outcome.
 use borrow.Author.Needs.{needs}
 use Rattle.answer.proofs.Outcome.answer.Statement.{statement}
 use Rattle.answer.proofs.Outcome.answer.Tie as tie

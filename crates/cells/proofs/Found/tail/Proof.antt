@@ -1,4 +1,4 @@
--- `memory::Found::tail` meets its contract, by what was found.
+-- `cells::Found::tail` meets its contract, by what was found.
 use borrow.Author.Needs.{needs}
 use Rattle.cells.proofs.Found.tail.Statement.{statement}
 use Rattle.cells.proofs.Found.tail.Tie as tie

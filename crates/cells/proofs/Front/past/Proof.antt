@@ -1,4 +1,4 @@
--- `memory::Front::past` meets its contract, from what `wrapping_add_u32` ensures.
+-- `cells::Front::past` meets its contract, from what `wrapping_add_u32` ensures.
 use borrow.Author.Needs.{needs}
 use Rattle.cells.proofs.Front.past.Statement.{statement}
 use Rattle.cells.proofs.Front.past.Tie as tie

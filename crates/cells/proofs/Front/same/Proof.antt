@@ -1,4 +1,4 @@
--- `memory::Front::same` meets its contract, by the test on the nodes.
+-- `cells::Front::same` meets its contract, by the test on the nodes.
 use borrow.Author.Tests.{eq-eqb, ne-eqb}
 use Rattle.cells.proofs.Front.same.Statement.{statement}
 use Rattle.cells.proofs.Front.same.Tie as tie

@@ -1,4 +1,4 @@
--- `memory::Head::same` meets its contract, by cases on both heads.
+-- `cells::Head::same` meets its contract, by cases on both heads.
 use borrow.Author.Needs.{needs}
 use Rattle.cells.proofs.Head.same.Statement.{statement}
 use Rattle.cells.proofs.Head.same.Tie as tie

@@ -1,4 +1,4 @@
--- `memory::Tail::past` meets its contract, from what `wrapping_add_u32` ensures.
+-- `cells::Tail::past` meets its contract, from what `wrapping_add_u32` ensures.
 use borrow.Author.Needs.{needs}
 use Rattle.cells.proofs.Tail.past.Statement.{statement}
 use Rattle.cells.proofs.Tail.past.Tie as tie

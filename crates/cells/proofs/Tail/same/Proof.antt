@@ -1,4 +1,4 @@
--- `memory::Tail::same` meets its contract, by the test on the nodes.
+-- `cells::Tail::same` meets its contract, by the test on the nodes.
 use borrow.Author.Tests.{eq-eqb, ne-eqb}
 use Rattle.cells.proofs.Tail.same.Statement.{statement}
 use Rattle.cells.proofs.Tail.same.Tie as tie

@@ -1,4 +1,4 @@
--- `call::pairing::Cursor::next_node` meets its contract, by the kind of batch.
+-- `pairing::Cursor::next_node` meets its contract, by the kind of batch.
 use borrow.Author.Needs.{needs}
 use Rattle.pairing.proofs.Cursor.next_node.Statement.{statement}
 use Rattle.pairing.proofs.Cursor.next_node.Tie as tie

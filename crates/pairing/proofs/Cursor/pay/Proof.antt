@@ -1,4 +1,4 @@
--- `call::pairing::Cursor::pay` meets its contract, by the kind of batch.
+-- `pairing::Cursor::pay` meets its contract, by the kind of batch.
 use borrow.Author.Needs.{needs}
 use Rattle.pairing.proofs.Cursor.pay.Statement.{statement}
 use Rattle.pairing.proofs.Cursor.pay.Tie as tie

@@ -1,4 +1,4 @@
--- `thread::Place::announcement` meets its contract, place by place.
+-- `place::Place::announcement` meets its contract, place by place.
 use borrow.Author.Needs.{needs}
 use Rattle.place.proofs.Place.announcement.Statement.{statement}
 use Rattle.place.proofs.Place.announcement.Tie as tie
