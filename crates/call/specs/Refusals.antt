@@ -2,12 +2,17 @@
 use Prim.Native.Nat.{ℕ}
 use mathlib.Core.Bool.{Bool, true, false, not, cond, _&&_, _||_}
 use lib.Dec.{eqb, ltb, leb}
-use Rattle.refusal.specs.declared.Refusal.the-variants.{NoSuchThread, InCall, NotInCall, NoNode, NoFuture, NoPendingPlace, NoAnnouncement, SetupOutOfRange}
+use Rattle.refusal.specs.declared.Refusal.the-variants.{NoSuchThread, InCall, NotInCall, NoNode, NoFuture, NoPendingPlace, NoAnnouncement, NotOwnFuture, SetupOutOfRange}
 use Rattle.place.specs.declared.Place.{Place}
 use Rattle.row.specs.declared.Row.{Row}
 use Rattle.place.specs.Place.{idle}
 use Rattle.answer.specs.declared.Verdict.{Verdict}
 use Rattle.answer.specs.declared.Verdict.the-variants.{Accepted, Refused}
+use Rattle.answer.specs.declared.Outcome.{Outcome}
+use Rattle.answer.specs.declared.Outcome.the-variants as outcome
+use Rattle.answer.specs.declared.Future.{Future}
+use Rattle.call.specs.declared.entry.Entry.{Entry}
+use Rattle.call.specs.declared.entry.Entry.the-variants.{Enqueue, Dequeue, FutureEnqueue, FutureDequeue, Evaluate, Step, Run}
 use Rattle.call.specs.declared.test.Used.{Used}
 use Rattle.call.specs.declared.test.Needs.{Needs}
 
@@ -52,11 +57,15 @@ enqueueNeeds r = record { node = true; future = some (r .count); announcement = 
 abbrev pub dequeueNeeds : Row → Needs
 dequeueNeeds r = record { node = false; future = some (r .count); announcement = some (r .tally .enqueues) }
 
+-- a deferred call needs a future and a pending place, and a node where it is an enqueue
+abbrev pub deferredNeeds : Bool → Needs
+deferredNeeds enqueue = record { node = enqueue; future = true; announcement = false }
+
 abbrev pub futureEnqueueNeeds : Needs
-futureEnqueueNeeds = record { node = true; future = true; announcement = false }
+futureEnqueueNeeds = deferredNeeds true
 
 abbrev pub futureDequeueNeeds : Needs
-futureDequeueNeeds = record { node = false; future = true; announcement = false }
+futureDequeueNeeds = deferredNeeds false
 
 -- Evaluate of a future that is not done sets off the batch
 abbrev pub evaluateNeeds : Row → Needs
@@ -64,6 +73,26 @@ evaluateNeeds r = record { node = false; future = false; announcement = some (r 
 
 abbrev pub callVerdict : ℕ → ℕ → Row → Used → ℕ → Needs → Verdict
 callVerdict t threads r u nodes n = first (callable t threads (r .place)) (lacking n u nodes (r .count))
+
+-- Evaluate: 8, then what setting off its batch needs where the future is not done
+abbrev pub waitingVerdict : Outcome → Row → Used → ℕ → Verdict
+waitingVerdict outcome.Waiting r u nodes = lacking (evaluateNeeds r) u nodes (r .count)
+waitingVerdict outcome.Ok r u nodes = Accepted
+waitingVerdict (outcome.Item v) r u nodes = Accepted
+waitingVerdict outcome.Empty r u nodes = Accepted
+
+abbrev pub ownVerdict : ℕ → ℕ → Row → Used → ℕ → Future → Verdict
+ownVerdict t f r u nodes x = cond (foreign f (x .owner) (u .futures) t) (Refused NotOwnFuture) (waitingVerdict (x .outcome) r u nodes)
+
+-- whether an entry is refused, on a machine of so many threads and nodes: r is its thread's row, x the future that it names
+unfoldable pub verdict : Entry → ℕ → ℕ → Used → Row → Future → Verdict
+verdict (Enqueue t v) threads nodes u r x = callVerdict t threads r u nodes (enqueueNeeds r)
+verdict (Dequeue t) threads nodes u r x = callVerdict t threads r u nodes (dequeueNeeds r)
+verdict (FutureEnqueue t v) threads nodes u r x = callVerdict t threads r u nodes futureEnqueueNeeds
+verdict (FutureDequeue t) threads nodes u r x = callVerdict t threads r u nodes futureDequeueNeeds
+verdict (Evaluate t f) threads nodes u r x = first (callable t threads (r .place)) (ownVerdict t f r u nodes x)
+verdict (Step t) threads nodes u r x = steppable t threads (r .place)
+verdict (Run t n) threads nodes u r x = steppable t threads (r .place)
 
 -- what is so where a verdict accepts, and where it refuses
 abbrev pub whereAccepted : {A : Type 0} → Verdict → A → A → A

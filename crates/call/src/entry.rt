@@ -1,5 +1,6 @@
 // The entries of 01, and the numbers that a set-up may have.
 ghost use mathlib.Core.Path.{_≡_};
+ghost use Rattle.call.specs.Operands.{threadOf, futureOf};
 ghost use Rattle.call.specs.Refusals.{inRange};
 use answer::Verdict;
 use refusal::Refusal;
@@ -19,6 +20,38 @@ impl Entry {
     pub const THREADS: u32 = 8;
 
     pub const NODES: u32 = 512;
+
+    pub fn thread(self) -> u32
+        ensures { λ r. ⌜ r ≡ threadOf self ⌝ }
+    {
+        match self {
+            Entry::Enqueue { thread, item: _ } => thread,
+            Entry::Dequeue { thread } => thread,
+            Entry::FutureEnqueue { thread, item: _ } => thread,
+            Entry::FutureDequeue { thread } => thread,
+            Entry::Evaluate { thread, future: _ } => thread,
+            Entry::Step { thread } => thread,
+            Entry::Run { thread, steps: _ } => thread,
+        }
+    }
+
+    // The future that Evaluate names; the others name none, and answer 0.
+    pub fn future(self) -> u32
+        ensures { λ r. ⌜ r ≡ futureOf self ⌝ }
+    {
+        match self {
+            Entry::Enqueue { thread: _, item: _ } => 0,
+            Entry::Dequeue { thread: _ } => 0,
+            Entry::FutureEnqueue { thread: _, item: _ } => 0,
+            Entry::FutureDequeue { thread: _ } => 0,
+            Entry::Evaluate { thread: _, future } => future,
+            Entry::Step { thread: _ } => 0,
+            Entry::Run {
+                thread: _,
+                steps: _,
+            } => 0,
+        }
+    }
 }
 
 // Refusal 9: a set-up has 1 to 8 threads and 2 to 512 nodes, the dummy among them.

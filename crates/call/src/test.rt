@@ -1,7 +1,10 @@
 // The tests of 01's refusal table, 1 to 8, in its order. Nothing has changed when one is given.
 ghost use mathlib.Core.Path.{_≡_};
 ghost use Rattle.call.specs.Next.{nextNode, nextFuture, nextAnnouncement};
-ghost use Rattle.call.specs.Refusals.{short, lacking, callable, steppable, foreign, callVerdict};
+ghost use Rattle.call.specs.Refusals.{first, short, lacking, callable, steppable, foreign, enqueueNeeds, dequeueNeeds, deferredNeeds, evaluateNeeds, callVerdict, ownVerdict, verdict};
+use crate::entry::Entry;
+use answer::Future;
+use answer::Outcome;
 use answer::Verdict;
 use place::Place;
 use refusal::Refusal;
@@ -48,6 +51,62 @@ pub struct Needs {
     pub announcement: bool,
 }
 
+// With nothing pending Enqueue needs a node only; with pending calls it adds itself and sets them off.
+fn enqueue_needs(row: Row) -> Needs
+    ensures { λ r. ⌜ r ≡ enqueueNeeds row ⌝ }
+{
+    Needs {
+        node: true,
+        future: row.count != 0,
+        announcement: row.count != 0,
+    }
+}
+
+// With nothing pending Dequeue needs nothing; an announcement only where an enqueue is pending.
+fn dequeue_needs(row: Row) -> Needs
+    ensures { λ r. ⌜ r ≡ dequeueNeeds row ⌝ }
+{
+    let tally = row.tally;
+    Needs {
+        node: false,
+        future: row.count != 0,
+        announcement: tally.enqueues != 0,
+    }
+}
+
+// A deferred call needs no announcement yet, and a node only where it is an enqueue.
+fn deferred_needs(enqueue: bool) -> Needs
+    ensures { λ r. ⌜ r ≡ deferredNeeds enqueue ⌝ }
+{
+    Needs {
+        node: enqueue,
+        future: true,
+        announcement: false,
+    }
+}
+
+// Evaluate of a future that is not done.
+fn evaluate_needs(row: Row) -> Needs
+    ensures { λ r. ⌜ r ≡ evaluateNeeds row ⌝ }
+{
+    let tally = row.tally;
+    Needs {
+        node: false,
+        future: false,
+        announcement: tally.enqueues != 0,
+    }
+}
+
+// The first of two tests that refuses decides.
+fn first(test: Verdict, next: Verdict) -> Verdict
+    ensures { λ r. ⌜ r ≡ first test next ⌝ }
+{
+    match test {
+        Verdict::Refused(refusal) => Verdict::Refused(refusal),
+        Verdict::Accepted => next,
+    }
+}
+
 // Whether something is needed and all that there are have been handed out.
 fn short(needed: bool, used: u32, all: u32) -> bool
     ensures { λ r. ⌜ r ≡ short needed used all ⌝ }
@@ -59,7 +118,7 @@ fn short(needed: bool, used: u32, all: u32) -> bool
 }
 
 // Refusals 4 to 7, in that order; `nodes` is the machine's number of nodes, `pending` the thread's count.
-pub fn lacking(needs: Needs, used: Used, nodes: u32, pending: u32) -> Verdict
+fn lacking(needs: Needs, used: Used, nodes: u32, pending: u32) -> Verdict
     ensures { λ r. ⌜ r ≡ lacking needs used nodes pending ⌝ }
 {
     if short(needs.node, used.nodes, nodes) {
@@ -78,7 +137,7 @@ pub fn lacking(needs: Needs, used: Used, nodes: u32, pending: u32) -> Verdict
 }
 
 // Refusals 1 and 2: the thread is there, and idle.
-pub fn callable(thread: u32, threads: u32, place: Place) -> Verdict
+fn callable(thread: u32, threads: u32, place: Place) -> Verdict
     ensures { λ r. ⌜ r ≡ callable thread threads place ⌝ }
 {
     if threads <= thread {
@@ -91,7 +150,7 @@ pub fn callable(thread: u32, threads: u32, place: Place) -> Verdict
 }
 
 // Refusals 1 and 3: the thread is there, and in a call.
-pub fn steppable(thread: u32, threads: u32, place: Place) -> Verdict
+fn steppable(thread: u32, threads: u32, place: Place) -> Verdict
     ensures { λ r. ⌜ r ≡ steppable thread threads place ⌝ }
 {
     if threads <= thread {
@@ -104,7 +163,7 @@ pub fn steppable(thread: u32, threads: u32, place: Place) -> Verdict
 }
 
 // Refusal 8: the future was not handed out, or belongs to another thread.
-pub fn foreign(future: u32, owner: u8, used: u32, thread: u32) -> bool
+fn foreign(future: u32, owner: u8, used: u32, thread: u32) -> bool
     ensures { λ r. ⌜ r ≡ foreign future owner used thread ⌝ }
 {
     if future < used {
@@ -114,7 +173,7 @@ pub fn foreign(future: u32, owner: u8, used: u32, thread: u32) -> bool
 }
 
 // An entry that begins or defers a call: 1, 2, then 4 to 7.
-pub fn call_verdict(
+fn call_verdict(
     thread: u32,
     threads: u32,
     row: Row,
@@ -125,9 +184,57 @@ pub fn call_verdict(
     ensures { λ r. ⌜ r ≡ callVerdict thread threads row used nodes needs ⌝ }
 {
     let place = row.place;
-    let verdict = callable(thread, threads, place);
-    match verdict {
-        Verdict::Refused(refusal) => Verdict::Refused(refusal),
-        Verdict::Accepted => lacking(needs, used, nodes, row.count),
+    let there = callable(thread, threads, place);
+    first(there, lacking(needs, used, nodes, row.count))
+}
+
+// Evaluate of an idle thread: 8, then 7 where the future is not done.
+fn own_verdict(thread: u32, future: u32, row: Row, used: Used, nodes: u32, asked: Future) -> Verdict
+    ensures { λ r. ⌜ r ≡ ownVerdict thread future row used nodes asked ⌝ }
+{
+    if foreign(future, asked.owner, used.futures, thread) {
+        return Verdict::Refused(Refusal::NotOwnFuture);
+    }
+    let outcome = asked.outcome;
+    match outcome {
+        Outcome::Waiting => lacking(evaluate_needs(row), used, nodes, row.count),
+        Outcome::Ok => Verdict::Accepted,
+        Outcome::Item(_) => Verdict::Accepted,
+        Outcome::Empty => Verdict::Accepted,
+    }
+}
+
+// Whether an entry is refused, on a machine of some threads and nodes: `row` is its thread's, `asked` the
+// future that it names.
+pub fn verdict(
+    entry: Entry,
+    threads: u32,
+    nodes: u32,
+    used: Used,
+    row: Row,
+    asked: Future,
+) -> Verdict
+    ensures { λ r. ⌜ r ≡ verdict entry threads nodes used row asked ⌝ }
+{
+    let place = row.place;
+    match entry {
+        Entry::Enqueue { thread, item: _ } => {
+            call_verdict(thread, threads, row, used, nodes, enqueue_needs(row))
+        }
+        Entry::Dequeue { thread } => {
+            call_verdict(thread, threads, row, used, nodes, dequeue_needs(row))
+        }
+        Entry::FutureEnqueue { thread, item: _ } => {
+            call_verdict(thread, threads, row, used, nodes, deferred_needs(true))
+        }
+        Entry::FutureDequeue { thread } => {
+            call_verdict(thread, threads, row, used, nodes, deferred_needs(false))
+        }
+        Entry::Evaluate { thread, future } => first(
+            callable(thread, threads, place),
+            own_verdict(thread, future, row, used, nodes, asked),
+        ),
+        Entry::Step { thread } => steppable(thread, threads, place),
+        Entry::Run { thread, steps: _ } => steppable(thread, threads, place),
     }
 }

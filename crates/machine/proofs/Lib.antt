@@ -1,5 +1,5 @@
 pub mod Hops
 pub mod Runs
-pub mod Starts
+pub mod Decided
 pub mod Pairs
 pub mod Determined

@@ -12,9 +12,10 @@ use Rattle.pairing.specs.declared.Cursor.{Cursor}
 use Rattle.pairing.specs.declared.Paid.{Paid}
 use Rattle.pairing.specs.Pairing.{nodeBehind, nextOf, pay}
 use Rattle.cells.specs.declared.Cell.{Cell}
+use Rattle.row.specs.declared.Row.{Row}
 use Rattle.machine.specs.declared.Machine.{Machine}
-use Rattle.machine.specs.State.{withFutures, noItem, noFuture}
-use Rattle.machine.specs.Pairing.{done, paidTo, pairFrom}
+use Rattle.machine.specs.State.{rowAt, withFutures, noItem, noFuture}
+use Rattle.machine.specs.Pairing.{done, paidTo, pairFrom, pairingOf, pairing}
 
 pub pair-turn : (m₀ m : Machine) (last : ℕ) (pending : List ℕ) (count k : ℕ) (c : Cursor) {z : List Future} {nb nx : ℕ} {pd : Paid}
     → k < count
@@ -52,3 +53,8 @@ unfolding pairFrom
 paired m₀ m last pending count k c e same inv =
     let none : 0 ≡ count - k = omega arith in
     same ∙ ap (withFutures m₀) (ap (λ (n : ℕ). pairFrom n (m₀ .links) (m₀ .items) last pending k (m .futures) c) none ∙ inv)
+
+-- a thread's pairing is that of its row
+pub pairing-law : (m : Machine) (i : ℕ) (c : Cursor) {r : Row} {z : Machine} → r ≡ rowAt m i → z ≡ pairingOf m r c → z ≡ pairing m i c
+unfolding pairing
+pairing-law m i c {r} e1 e2 = e2 ∙ ap (λ (x : Row). pairingOf m x c) e1

@@ -142,3 +142,20 @@ apply m (FutureDequeue t) = futureDequeue m t
 apply m (Evaluate t f) = evaluate m t f
 apply m (Step t) = step m t
 apply m (Run t n) = run m t n
+
+-- how the code goes: one verdict (call's `verdict`), then what an accepted entry does, which can't refuse; proofs/Decided.antt shows that this
+-- is `apply`. i is the thread's number, o the outcome of the future that Evaluate names.
+unfoldable pub asked : Machine → ℕ → ℕ → Outcome → Told
+asked m i f outcome.Waiting = telling (setOff m i f) answer.Started
+asked m i f outcome.Ok = telling m answer.Ok
+asked m i f (outcome.Item v) = telling m (answer.Item v)
+asked m i f outcome.Empty = telling m answer.Empty
+
+unfoldable pub accepted : Machine → ℕ → Entry → Outcome → Told
+accepted m i (Enqueue t v) o = telling (startEnqueue m i (record { value = v })) answer.Started
+accepted m i (Dequeue t) o = telling (startDequeue m i) answer.Started
+accepted m i (FutureEnqueue t v) o = telling (deferEnqueue m i (record { value = v })) (answer.Future (nextFuture (m .used)))
+accepted m i (FutureDequeue t) o = telling (deferDequeue m i) (answer.Future (nextFuture (m .used)))
+accepted m i (Evaluate t f) o = asked m i (f % 512) o
+accepted m i (Step t) o = advance m i 1
+accepted m i (Run t n) o = advance m i n

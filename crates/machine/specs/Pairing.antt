@@ -4,6 +4,7 @@ use mathlib.Core.List.{List}
 use lib.ListN.{getD, set}
 use Rattle.cells.specs.declared.Cell.{Cell}
 use Rattle.memory.specs.Memory.{cellAt}
+use Rattle.row.specs.declared.Row.{Row}
 use Rattle.row.specs.Row.{cleared}
 use Rattle.answer.specs.declared.Item.{Item}
 use Rattle.answer.specs.declared.Outcome.{Outcome}
@@ -43,8 +44,12 @@ pairFrom (suc n) links items last pending k fs c =
     (set fs (getD pending (k % 32) 0 % 512) (done (getD fs (getD pending (k % 32) 0 % 512) noFuture) (paidTo links items last c (getD fs (getD pending (k % 32) 0 % 512) noFuture) .outcome)))
     (paidTo links items last c (getD fs (getD pending (k % 32) 0 % 512) noFuture) .cursor)
 
+-- the futures of a row's pending calls
+abbrev pub pairingOf : Machine → Row → Cursor → Machine
+pairingOf m r c = withFutures m (pairFrom (r .count % 33) (m .links) (m .items) (r .last) (r .pending) 0 (m .futures) c)
+
 unfoldable pub pairing : Machine → ℕ → Cursor → Machine
-pairing m i c = withFutures m (pairFrom (rowAt m i .count % 33) (m .links) (m .items) (rowAt m i .last) (rowAt m i .pending) 0 (m .futures) c)
+pairing m i c = pairingOf m (rowAt m i) c
 
 -- the end of a batch's call: its futures are done, the pending list and the tally cleared, the answer that of the future that was asked for
 unfoldable pub settled : Machine → ℕ → ℕ → Cursor → Told

@@ -1,5 +1,5 @@
 -- 01, "What the machine is": the machine's parts, the fresh machine, and set-up with refusal 9.
-use Prim.Native.Nat.{ℕ}
+use Prim.Native.Nat.{ℕ, _%_}
 use mathlib.Core.Bool.{false}
 use mathlib.Core.List.{List}
 use lib.ListN.{getD, set, replicate}
@@ -63,6 +63,13 @@ withMemory m x = record {
 -- a thread's row; its place among the rows is its number
 abbrev pub rowAt : Machine → ℕ → Row
 rowAt m i = getD (m .rows) i noRow
+
+-- the item of a node, and a future, by their numbers; the remainders make it total
+abbrev pub itemAt : Machine → ℕ → Item
+itemAt m n = getD (m .items) (n % 512) noItem
+
+abbrev pub futureAt : Machine → ℕ → Future
+futureAt m f = getD (m .futures) (f % 512) noFuture
 
 abbrev pub withRow : Machine → ℕ → Row → Machine
 withRow m i r = record {

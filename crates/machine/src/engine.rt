@@ -5,7 +5,6 @@ ghost use Rattle.machine.specs.Steps.{hops, tell, advance};
 use crate::Machine;
 use crate::Told;
 use answer::Answer;
-use cells::Cell;
 use cells::Link;
 use pairing::Cursor;
 use pairing::Supply;
@@ -92,12 +91,11 @@ impl Machine {
             After::Ok => telling_after(self, Answer::Ok, steps),
             After::Empty => telling_after(self, Answer::Empty, steps),
             After::Item(node) => {
-                let n = (node % Cell::NODES) as usize;
-                let item = self.items[n];
+                let item = self.item_at(node);
                 telling_after(self, Answer::Item(item), steps)
             }
             After::Pair { from } => {
-                let row = self.rows[at];
+                let row = self.row_at(at);
                 let supply = Supply::Batch {
                     next: Link::To(row.first),
                     none_left: false,

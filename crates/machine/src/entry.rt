@@ -1,7 +1,7 @@
 // The entries of 01: the tests of the refusal table, in its order, and what an accepted entry starts.
 ghost use mathlib.Core.Path.{_≡_};
 ghost use Prim.Native.Nat.{_<_, _%_};
-ghost use Rattle.machine.specs.Entries.{linkedBehind, deferEnqueue, deferDequeue, setOff, startEnqueue, startDequeue, evaluateOwn, evaluateWaiting, enqueue, dequeue, futureEnqueue, futureDequeue, evaluate, step, run, apply, refusing, telling};
+ghost use Rattle.machine.specs.Entries.{refusing, telling, linkedBehind, deferEnqueue, deferDequeue, setOff, startEnqueue, startDequeue, apply, asked, accepted};
 use crate::Machine;
 use crate::Told;
 use answer::Answer;
@@ -9,7 +9,6 @@ use answer::Item;
 use answer::Outcome;
 use answer::Verdict;
 use call::entry::Entry;
-use call::test::Needs;
 use call::test::Used;
 use cells::Cell;
 use cells::Link;
@@ -65,7 +64,7 @@ impl Machine {
         requires { ⌜ at < 8 ⌝ }
         ensures { λ r. ⌜ r ≡ deferEnqueue self at item ⌝ }
     {
-        let row = self.rows[at];
+        let row = self.row_at(at);
         let used = self.used;
         let node = used.next_node();
         let with_node = self.hand_out_node(item);
@@ -79,7 +78,7 @@ impl Machine {
         requires { ⌜ at < 8 ⌝ }
         ensures { λ r. ⌜ r ≡ deferDequeue self at ⌝ }
     {
-        let row = self.rows[at];
+        let row = self.row_at(at);
         let used = self.used;
         let with_future = self.hand_out_future(at as u8, false);
         with_future.with_row(at, row.with_dequeue(used.next_future()))
@@ -91,7 +90,7 @@ impl Machine {
         requires { ⌜ at < 8 ⌝ }
         ensures { λ r. ⌜ r ≡ setOff self at future ⌝ }
     {
-        let row = self.rows[at];
+        let row = self.row_at(at);
         let tally = row.tally;
         if tally.enqueues == 0 {
             let calling = row.calling(Place::Dequeues(DequeuesStep::Q1), future);
@@ -108,7 +107,7 @@ impl Machine {
         requires { ⌜ at < 8 ⌝ }
         ensures { λ r. ⌜ r ≡ startEnqueue self at item ⌝ }
     {
-        let row = self.rows[at];
+        let row = self.row_at(at);
         let used = self.used;
         if row.count == 0 {
             let place = Place::Enqueue(used.next_node(), EnqueueStep::E1);
@@ -124,7 +123,7 @@ impl Machine {
         requires { ⌜ at < 8 ⌝ }
         ensures { λ r. ⌜ r ≡ startDequeue self at ⌝ }
     {
-        let row = self.rows[at];
+        let row = self.row_at(at);
         let used = self.used;
         if row.count == 0 {
             return self.with_row(at, row.at(Place::Dequeue(DequeueStep::D1)));
@@ -136,180 +135,59 @@ impl Machine {
     // Evaluate of the thread's own future: its result at once where it is done.
     fn evaluate_own(self, at: usize, future: u16, outcome: Outcome) -> Told
         requires { ⌜ at < 8 ⌝ }
-        ensures { λ r. ⌜ r ≡ evaluateOwn self at future outcome ⌝ }
+        ensures { λ r. ⌜ r ≡ asked self at future outcome ⌝ }
     {
         match outcome {
-            Outcome::Waiting => self.evaluate_waiting(at, future),
+            Outcome::Waiting => telling(self.set_off(at, future), Answer::Started),
             Outcome::Ok => telling(self, Answer::Ok),
             Outcome::Item(item) => telling(self, Answer::Item(item)),
             Outcome::Empty => telling(self, Answer::Empty),
         }
     }
 
-    fn evaluate_waiting(self, at: usize, future: u16) -> Told
+    // An accepted entry. `outcome` is that of the future that Evaluate names.
+    fn accepted(self, at: usize, entry: Entry, outcome: Outcome) -> Told
         requires { ⌜ at < 8 ⌝ }
-        ensures { λ r. ⌜ r ≡ evaluateWaiting self at future ⌝ }
+        ensures { λ r. ⌜ r ≡ accepted self at entry outcome ⌝ }
     {
-        let row = self.rows[at];
         let used = self.used;
-        let tally = row.tally;
-        let needs = Needs {
-            node: false,
-            future: false,
-            announcement: tally.enqueues != 0,
-        };
-        let verdict = call::test::lacking(needs, used, self.nodes, row.count);
-        match verdict {
-            Verdict::Refused(refusal) => refusing(self, refusal),
-            Verdict::Accepted => telling(self.set_off(at, future), Answer::Started),
-        }
-    }
-}
-
-// The entries. Each answers as 01's table says, or refuses with the machine unchanged.
-impl Machine {
-    // Refused: 1, 2, 4 to 7.
-    fn enqueue(self, thread: u32, item: u32) -> Told
-        ensures { λ r. ⌜ r ≡ enqueue self thread item ⌝ }
-    {
-        let at = (thread % Entry::THREADS) as usize;
-        let row = self.rows[at];
-        let used = self.used;
-        let needs = Needs {
-            node: true,
-            future: row.count != 0,
-            announcement: row.count != 0,
-        };
-        let verdict = call::test::call_verdict(thread, self.threads, row, used, self.nodes, needs);
-        match verdict {
-            Verdict::Refused(refusal) => refusing(self, refusal),
-            Verdict::Accepted => {
-                let started = self.start_enqueue(at, Item { value: item });
-                telling(started, Answer::Started)
+        let future = Answer::Future(used.next_future() as u32);
+        match entry {
+            Entry::Enqueue { thread: _, item } => {
+                telling(
+                    self.start_enqueue(at, Item { value: item }),
+                    Answer::Started,
+                )
             }
-        }
-    }
-
-    // Refused: 1, 2, 5 to 7.
-    fn dequeue(self, thread: u32) -> Told
-        ensures { λ r. ⌜ r ≡ dequeue self thread ⌝ }
-    {
-        let at = (thread % Entry::THREADS) as usize;
-        let row = self.rows[at];
-        let tally = row.tally;
-        let used = self.used;
-        let needs = Needs {
-            node: false,
-            future: row.count != 0,
-            announcement: tally.enqueues != 0,
-        };
-        let verdict = call::test::call_verdict(thread, self.threads, row, used, self.nodes, needs);
-        match verdict {
-            Verdict::Refused(refusal) => refusing(self, refusal),
-            Verdict::Accepted => telling(self.start_dequeue(at), Answer::Started),
-        }
-    }
-
-    // Refused: 1, 2, 4 to 6.
-    fn future_enqueue(self, thread: u32, item: u32) -> Told
-        ensures { λ r. ⌜ r ≡ futureEnqueue self thread item ⌝ }
-    {
-        let at = (thread % Entry::THREADS) as usize;
-        let row = self.rows[at];
-        let used = self.used;
-        let needs = Needs {
-            node: true,
-            future: true,
-            announcement: false,
-        };
-        let verdict = call::test::call_verdict(thread, self.threads, row, used, self.nodes, needs);
-        match verdict {
-            Verdict::Refused(refusal) => refusing(self, refusal),
-            Verdict::Accepted => {
-                let deferred = self.defer_enqueue(at, Item { value: item });
-                telling(deferred, Answer::Future(used.next_future() as u32))
+            Entry::Dequeue { thread: _ } => telling(self.start_dequeue(at), Answer::Started),
+            Entry::FutureEnqueue { thread: _, item } => {
+                telling(self.defer_enqueue(at, Item { value: item }), future)
             }
+            Entry::FutureDequeue { thread: _ } => telling(self.defer_dequeue(at), future),
+            Entry::Evaluate {
+                thread: _,
+                future: asked,
+            } => { self.evaluate_own(at, (asked % Used::FUTURES) as u16, outcome) }
+            Entry::Step { thread: _ } => self.advance(at, 1),
+            Entry::Run { thread: _, steps } => self.advance(at, steps),
         }
     }
 
-    // Refused: 1, 2, 5, 6.
-    fn future_dequeue(self, thread: u32) -> Told
-        ensures { λ r. ⌜ r ≡ futureDequeue self thread ⌝ }
-    {
-        let at = (thread % Entry::THREADS) as usize;
-        let row = self.rows[at];
-        let used = self.used;
-        let needs = Needs {
-            node: false,
-            future: true,
-            announcement: false,
-        };
-        let verdict = call::test::call_verdict(thread, self.threads, row, used, self.nodes, needs);
-        match verdict {
-            Verdict::Refused(refusal) => refusing(self, refusal),
-            Verdict::Accepted => {
-                let deferred = self.defer_dequeue(at);
-                telling(deferred, Answer::Future(used.next_future() as u32))
-            }
-        }
-    }
-
-    // Refused: 1, 2, 8, 7.
-    fn evaluate(self, thread: u32, future: u32) -> Told
-        ensures { λ r. ⌜ r ≡ evaluate self thread future ⌝ }
-    {
-        let at = (thread % Entry::THREADS) as usize;
-        let number = (future % Used::FUTURES) as u16;
-        let row = self.rows[at];
-        let place = row.place;
-        let used = self.used;
-        let x = self.futures[number as usize];
-        let outcome = x.outcome;
-        let verdict = call::test::callable(thread, self.threads, place);
-        match verdict {
-            Verdict::Refused(refusal) => refusing(self, refusal),
-            Verdict::Accepted => {
-                if call::test::foreign(future, x.owner, used.futures, thread) {
-                    return refusing(self, Refusal::NotOwnFuture);
-                }
-                self.evaluate_own(at, number, outcome)
-            }
-        }
-    }
-
-    // Refused: 1, 3.
-    fn run(self, thread: u32, steps: u32) -> Told
-        ensures { λ r. ⌜ r ≡ run self thread steps ⌝ }
-    {
-        let at = (thread % Entry::THREADS) as usize;
-        let row = self.rows[at];
-        let place = row.place;
-        let verdict = call::test::steppable(thread, self.threads, place);
-        match verdict {
-            Verdict::Refused(refusal) => refusing(self, refusal),
-            Verdict::Accepted => self.advance(at, steps),
-        }
-    }
-
-    // Refused: 1, 3.
-    fn step(self, thread: u32) -> Told
-        ensures { λ r. ⌜ r ≡ step self thread ⌝ }
-    {
-        self.run(thread, 1)
-    }
-
-    // One entry.
+    // One entry: it answers as 01's table says, or is refused with the machine unchanged.
     pub fn apply(self, entry: Entry) -> Told
         ensures { λ r. ⌜ r ≡ apply self entry ⌝ }
     {
-        match entry {
-            Entry::Enqueue { thread, item } => self.enqueue(thread, item),
-            Entry::Dequeue { thread } => self.dequeue(thread),
-            Entry::FutureEnqueue { thread, item } => self.future_enqueue(thread, item),
-            Entry::FutureDequeue { thread } => self.future_dequeue(thread),
-            Entry::Evaluate { thread, future } => self.evaluate(thread, future),
-            Entry::Step { thread } => self.step(thread),
-            Entry::Run { thread, steps } => self.run(thread, steps),
+        let at = (entry.thread() % Entry::THREADS) as usize;
+        let row = self.row_at(at);
+        let asked = self.future_at(entry.future());
+        let used = self.used;
+        let verdict = call::test::verdict(entry, self.threads, self.nodes, used, row, asked);
+        match verdict {
+            Verdict::Refused(refusal) => refusing(self, refusal),
+            Verdict::Accepted => {
+                let outcome = asked.outcome;
+                self.accepted(at, entry, outcome)
+            }
         }
     }
 }

@@ -10,7 +10,7 @@ pub mod hand_out;
 pub mod pair;
 
 ghost use mathlib.Core.Path.{_≡_};
-ghost use Rattle.machine.specs.State.{endsAtTheDummy, freshMachine, setUp, withRow};
+ghost use Rattle.machine.specs.State.{endsAtTheDummy, freshMachine, setUp, rowAt, itemAt, futureAt, withRow};
 ghost use Prim.Native.Nat.{_<_};
 ghost use Rattle.memory.specs.Memory.{noAnnouncement};
 use answer::Answer;
@@ -104,6 +104,25 @@ impl Machine {
             verdict: call::entry::in_range(threads, nodes),
             machine: Machine::fresh(threads, nodes),
         }
+    }
+
+    pub(crate) fn row_at(self, thread: usize) -> Row
+        requires { ⌜ thread < 8 ⌝ }
+        ensures { λ r. ⌜ r ≡ rowAt self thread ⌝ }
+    {
+        self.rows[thread]
+    }
+
+    pub(crate) fn item_at(self, node: u16) -> Item
+        ensures { λ r. ⌜ r ≡ itemAt self node ⌝ }
+    {
+        self.items[(node % Cell::NODES) as usize]
+    }
+
+    pub(crate) fn future_at(self, future: u32) -> Future
+        ensures { λ r. ⌜ r ≡ futureAt self future ⌝ }
+    {
+        self.futures[(future % Used::FUTURES) as usize]
     }
 
     pub(crate) fn with_row(mut self, thread: usize, row: Row) -> Machine

@@ -1,7 +1,7 @@
 // Pairing of a batch's results with its futures (listings 6 and 8), part of the step that ends the call.
 ghost use mathlib.Core.Path.{_≡_};
 ghost use Prim.Native.Nat.{_<_};
-ghost use Rattle.machine.specs.Pairing.{pairing, settled};
+ghost use Rattle.machine.specs.Pairing.{pairingOf, settled};
 use crate::Machine;
 use crate::Told;
 use answer::Future;
@@ -11,12 +11,10 @@ use pairing::Cursor;
 use row::Row;
 
 impl Machine {
-    // The futures of the thread's pending calls become done, in calling order.
-    pub(crate) fn pair(mut self, at: usize, start: Cursor) -> Machine
-        requires { ⌜ at < 8 ⌝ }
-        ensures { λ r. ⌜ r ≡ pairing self at start ⌝ }
+    // The futures of a row's pending calls become done, in calling order.
+    fn pair(mut self, row: Row, start: Cursor) -> Machine
+        ensures { λ r. ⌜ r ≡ pairingOf self row start ⌝ }
     {
-        let row = self.rows[at];
         let pending = row.pending;
         let count = row.count % Row::COUNTS;
         let mut cursor = start;
@@ -58,11 +56,10 @@ impl Machine {
         requires { ⌜ at < 8 ⌝ }
         ensures { λ r. ⌜ r ≡ settled self at steps start ⌝ }
     {
-        let row = self.rows[at];
-        let paired = self.pair(at, start);
-        let asked = (row.future % Future::FUTURES) as usize;
-        let x = paired.futures[asked];
-        let outcome = x.outcome;
+        let row = self.row_at(at);
+        let paired = self.pair(row, start);
+        let asked = paired.future_at(row.future as u32);
+        let outcome = asked.outcome;
         Told {
             machine: paired.with_row(at, row.cleared()),
             answer: outcome.answer(),

@@ -1,14 +1,11 @@
--- `machine::Machine::defer_enqueue` meets its contract.
-use Rattle.machine.proofs.Starts.{defer-enqueue-law}
+-- `machine::Machine::defer_enqueue` meets its contract, one value after the other.
+use Rattle.machine.specs.Entries.{deferEnqueue}
 use borrow.Author.Needs.{needs}
 use Rattle.machine.proofs.Machine.defer_enqueue.Statement.{statement}
 use Rattle.machine.proofs.Machine.defer_enqueue.Tie as tie
 
-mul-row : tie.Need-mul-row
-mul-row c = search needs
-
-element-copy-out-row : tie.Need-element-copy-out-row
-element-copy-out-row c = search needs
+row-at-requires : tie.Need-row-at-requires
+row-at-requires c κs = search needs
 
 next-node-requires : tie.Need-next-node-requires
 next-node-requires c κs = search needs
@@ -35,16 +32,14 @@ with-row-requires : tie.Need-with-row-requires
 with-row-requires c κs = search needs
 
 returns : tie.Need-returns
-returns c =
-    let a = c .before .before .before .before .before .before .before .before .before .args in
-    defer-enqueue-law (a .t1) (a .at) (a .item) (c .before .before .before .before .before .before .next-node .ensures) (c .before .before .before .before .before .hand-out-node .ensures) (c .before .before .before .before .linked-behind .ensures) (c .before .before .before .hand-out-future .ensures) (c .before .before .next-future .ensures) (c .before .with-enqueue .ensures) (c .with-row .ensures)
+unfolding deferEnqueue
+returns c = simp (c .with-row .ensures, c .before .with-enqueue .ensures, c .before .before .next-future .ensures, c .before .before .before .hand-out-future .ensures, c .before .before .before .before .linked-behind .ensures, c .before .before .before .before .before .hand-out-node .ensures, c .before .before .before .before .before .before .next-node .ensures, c .before .before .before .before .before .before .before .before .row-at .ensures)
 
 pub defer-enqueue-spec : {M : Type 1} → statement M
 defer-enqueue-spec =
     tie.close
     (tie.spec
-    mul-row
-    element-copy-out-row
+    row-at-requires
     next-node-requires
     hand-out-node-requires
     linked-behind-requires

@@ -6,32 +6,26 @@ use native.Mathlib.Omega.{arith}
 use lib.ListN.{getD, set}
 use borrow.Author.Needs.{needs}
 use Rattle.machine.specs.declared.Machine.{Machine}
-use Rattle.machine.specs.State.{rowAt, withFutures, noFuture}
-use Rattle.machine.specs.Pairing.{done, pairFrom, pairing}
+use Rattle.machine.specs.State.{withFutures, noFuture}
+use Rattle.machine.specs.Pairing.{done, pairFrom}
 use Rattle.machine.proofs.Pairs.{pair-turn, paired}
 use Rattle.machine.proofs.Machine.pair.Statement.{statement}
 use Rattle.machine.proofs.Machine.pair.Tie as tie
 
 abbrev Inv-loop : tie.InvT-loop
-Inv-loop at self₀ row pending count cursor₀ k₀ self cursor k =
+Inv-loop row self₀ pending count cursor₀ k₀ self cursor k =
     (k ≤ count)
     × (self ≡ withFutures self₀ (self .futures))
     × (pairFrom (count - k) (self₀ .links) (self₀ .items) (row .last) pending k (self .futures) cursor
     ≡ pairFrom count (self₀ .links) (self₀ .items) (row .last) pending 0 (self₀ .futures) cursor₀)
 
 abbrev μ-loop : tie.MeasureT-loop
-μ-loop at self₀ row pending count cursor₀ k₀ self cursor k = count - k
-
-mul-row : tie.Need-mul-row Inv-loop μ-loop
-mul-row c = search needs
-
-element-copy-out-row : tie.Need-element-copy-out-row Inv-loop μ-loop
-element-copy-out-row c = search needs
+μ-loop row self₀ pending count cursor₀ k₀ self cursor k = count - k
 
 loop-holds : tie.Need-loop-holds Inv-loop μ-loop
 loop-holds c =
-    let start = c .before .before .before .args in
-    let row = rowAt (start .t1) (start .at) in
+    let start = c .before .before .args in
+    let row = start .row in
     let all : row .count % 33 - 0 ≡ row .count % 33 = omega arith in
     (search needs, refl, ap (λ (n : ℕ). pairFrom n (start .t1 .links) (start .t1 .items) (row .last) (row .pending) 0 (start .t1 .futures) (start .start)) all)
 
@@ -105,8 +99,8 @@ loop-again : tie.Need-loop-again Inv-loop μ-loop
 loop-again c =
     let turn = c .before .before .before .before .before .before .before .before in
     let l = turn .before .loop in
-    let start = turn .before .before .before .before .before .args in
-    let row = rowAt (start .t1) (start .at) in
+    let start = turn .before .before .before .before .args in
+    let row = start .row in
     let f = getD (row .pending) (l .k % 32) 0 % 512 in
     let fs = set (l .self .futures) f (done (getD (l .self .futures) f noFuture) (c .before .pay .result .outcome)) in (
       omega (arith, turn .loop-test),
@@ -115,11 +109,10 @@ loop-again c =
     )
 
 returns : tie.Need-returns Inv-loop μ-loop
-unfolding pairing
 returns c =
     let l = c .before .loop in
-    let start = c .before .before .before .before .before .args in
-    let row = rowAt (start .t1) (start .at) in
+    let start = c .before .before .before .before .args in
+    let row = start .row in
     paired (start .t1) (l .self) (row .last) (row .pending) (row .count % 33) (l .k) (l .cursor) (omega arith) (l .inv .1) (l .inv .2)
 
 pub pair-spec : {M : Type 1} → statement M
@@ -128,8 +121,6 @@ pair-spec =
     (tie.spec
     Inv-loop
     μ-loop
-    mul-row
-    element-copy-out-row
     loop-holds
     cast-place
     mul-future

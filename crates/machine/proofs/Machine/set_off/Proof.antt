@@ -1,14 +1,13 @@
 -- `machine::Machine::set_off` meets its contract, by whether an enqueue is pending.
-use Rattle.machine.proofs.Starts.{set-off-dequeues, set-off-batch}
+use borrow.Author.Tests.{eq-eqb, ne-eqb}
+use Rattle.machine.specs.Entries.{setOff}
+use mathlib.Core.Path.{sym}
 use borrow.Author.Needs.{needs}
 use Rattle.machine.proofs.Machine.set_off.Statement.{statement}
 use Rattle.machine.proofs.Machine.set_off.Tie as tie
 
-mul-row : tie.Need-mul-row
-mul-row c = search needs
-
-element-copy-out-row : tie.Need-element-copy-out-row
-element-copy-out-row c = search needs
+row-at-requires : tie.Need-row-at-requires
+row-at-requires c κs = search needs
 
 calling-requires : tie.Need-calling-requires
 calling-requires c κs = search needs
@@ -17,9 +16,8 @@ with-row-requires : tie.Need-with-row-requires
 with-row-requires c κs = search needs
 
 returns : tie.Need-returns
-returns c =
-    let a = c .before .before .before .before .before .before .args in
-    set-off-dequeues (a .t1) (a .at) (a .future) (c .before .before .if1 .taken) (c .before .calling .ensures) (c .with-row .ensures)
+unfolding setOff
+returns c = simp (c .with-row .ensures, c .before .calling .ensures, sym (c .before .before .before .before .before .row-at .ensures), eq-eqb _ _ (c .before .before .if1 .taken))
 
 next-announcement-requires : tie.Need-next-announcement-requires
 next-announcement-requires c κs = search needs
@@ -37,16 +35,14 @@ with-row-requires-2 : tie.Need-with-row-requires-2
 with-row-requires-2 c κs = search needs
 
 returns-2 : tie.Need-returns-2
-returns-2 c =
-    let a = c .before .before .before .before .before .before .before .before .before .before .args in
-    set-off-batch (a .t1) (a .at) (a .future) (c .before .before .before .before .before .before .if1 .left) (c .before .before .before .before .next-announcement .ensures) (c .before .before .before .request .ensures) (c .before .before .hand-out-announcement .ensures) (c .before .calling2 .ensures) (c .with-row2 .ensures)
+unfolding setOff
+returns-2 c = simp (c .with-row2 .ensures, c .before .calling2 .ensures, c .before .before .hand-out-announcement .ensures, c .before .before .before .request .ensures, c .before .before .before .before .next-announcement .ensures, sym (c .before .before .before .before .before .before .before .before .before .row-at .ensures), ne-eqb _ _ (c .before .before .before .before .before .before .if1 .left))
 
 pub set-off-spec : {M : Type 1} → statement M
 set-off-spec =
     tie.close
     (tie.spec
-    mul-row
-    element-copy-out-row
+    row-at-requires
     calling-requires
     with-row-requires
     returns

@@ -1,26 +1,21 @@
--- `machine::Machine::settle` meets its contract.
-use Rattle.machine.proofs.Starts.{settle-law}
+-- `machine::Machine::settle` meets its contract, one value after the other.
+use Rattle.machine.specs.Pairing.{settled}
+use Rattle.machine.proofs.Pairs.{pairing-law}
 use borrow.Author.Needs.{needs}
 use Rattle.machine.proofs.Machine.settle.Statement.{statement}
 use Rattle.machine.proofs.Machine.settle.Tie as tie
 
-mul-row : tie.Need-mul-row
-mul-row c = search needs
-
-element-copy-out-row : tie.Need-element-copy-out-row
-element-copy-out-row c = search needs
+row-at-requires : tie.Need-row-at-requires
+row-at-requires c κs = search needs
 
 pair-requires : tie.Need-pair-requires
 pair-requires c κs = search needs
 
-cast-asked : tie.Need-cast-asked
-cast-asked c = search needs
+cast-future-at : tie.Need-cast-future-at
+cast-future-at c = search needs
 
-mul-x : tie.Need-mul-x
-mul-x c = search needs
-
-element-copy-out-x : tie.Need-element-copy-out-x
-element-copy-out-x c = search needs
+future-at-requires : tie.Need-future-at-requires
+future-at-requires c κs = search needs
 
 cleared-requires : tie.Need-cleared-requires
 cleared-requires c κs = search needs
@@ -32,20 +27,20 @@ answer-requires : tie.Need-answer-requires
 answer-requires c κs = search needs
 
 returns : tie.Need-returns
+unfolding settled
 returns c =
     let a = c .before .before .before .before .before .before .before .args in
-    settle-law (a .t1) (a .at) (a .steps) (a .start) (c .before .before .before .before .before .pair .ensures) (c .before .before .cleared .ensures) (c .before .with-row .ensures) (c .answer .ensures)
+    let row = c .before .before .before .before .before .before .row-at .ensures in
+    simp (c .answer .ensures, c .before .with-row .ensures, c .before .before .cleared .ensures, c .before .before .before .future-at .ensures, pairing-law (a .self) (a .at) (a .start) row (c .before .before .before .before .before .pair .ensures), row)
 
 pub settle-spec : {M : Type 1} → statement M
 settle-spec =
     tie.close
     (tie.spec
-    mul-row
-    element-copy-out-row
+    row-at-requires
     pair-requires
-    cast-asked
-    mul-x
-    element-copy-out-x
+    cast-future-at
+    future-at-requires
     cleared-requires
     with-row-requires
     answer-requires

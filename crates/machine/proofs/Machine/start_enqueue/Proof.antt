@@ -1,14 +1,13 @@
 -- `machine::Machine::start_enqueue` meets its contract, by whether anything is pending.
-use Rattle.machine.proofs.Starts.{enqueue-alone, enqueue-behind}
+use borrow.Author.Tests.{eq-eqb, ne-eqb}
+use Rattle.machine.specs.Entries.{startEnqueue}
+use mathlib.Core.Path.{sym}
 use borrow.Author.Needs.{needs}
 use Rattle.machine.proofs.Machine.start_enqueue.Statement.{statement}
 use Rattle.machine.proofs.Machine.start_enqueue.Tie as tie
 
-mul-row : tie.Need-mul-row
-mul-row c = search needs
-
-element-copy-out-row : tie.Need-element-copy-out-row
-element-copy-out-row c = search needs
+row-at-requires : tie.Need-row-at-requires
+row-at-requires c κs = search needs
 
 next-node-requires : tie.Need-next-node-requires
 next-node-requires c κs = search needs
@@ -23,9 +22,8 @@ with-row-requires : tie.Need-with-row-requires
 with-row-requires c κs = search needs
 
 returns : tie.Need-returns
-returns c =
-    let a = c .before .before .before .before .before .before .before .before .args in
-    enqueue-alone (a .t1) (a .at) (a .item) (c .before .before .before .before .if1 .taken) (c .before .before .before .next-node .ensures) (c .before .before .hand-out-node .ensures) (c .before .at .ensures) (c .with-row .ensures)
+unfolding startEnqueue
+returns c = simp (c .with-row .ensures, c .before .at .ensures, c .before .before .hand-out-node .ensures, c .before .before .before .next-node .ensures, sym (c .before .before .before .before .before .before .before .row-at .ensures), eq-eqb _ _ (c .before .before .before .before .if1 .taken))
 
 defer-enqueue-requires : tie.Need-defer-enqueue-requires
 defer-enqueue-requires c κs = search needs
@@ -37,16 +35,14 @@ set-off-requires : tie.Need-set-off-requires
 set-off-requires c κs = search needs
 
 returns-2 : tie.Need-returns-2
-returns-2 c =
-    let a = c .before .before .before .before .before .before .before .args in
-    enqueue-behind (a .t1) (a .at) (a .item) (c .before .before .before .if1 .left) (c .before .before .defer-enqueue .ensures) (c .before .next-future .ensures) (c .set-off .ensures)
+unfolding startEnqueue
+returns-2 c = simp (c .set-off .ensures, c .before .next-future .ensures, c .before .before .defer-enqueue .ensures, sym (c .before .before .before .before .before .before .row-at .ensures), ne-eqb _ _ (c .before .before .before .if1 .left))
 
 pub start-enqueue-spec : {M : Type 1} → statement M
 start-enqueue-spec =
     tie.close
     (tie.spec
-    mul-row
-    element-copy-out-row
+    row-at-requires
     next-node-requires
     hand-out-node-requires
     at-requires

@@ -24,14 +24,8 @@ telling-after-requires-3 c κs = search needs
 enum-known-after : tie.Need-enum-known-after
 enum-known-after c = search needs
 
-cast-n : tie.Need-cast-n
-cast-n c = search needs
-
-mul-item : tie.Need-mul-item
-mul-item c = search needs
-
-element-copy-out-item : tie.Need-element-copy-out-item
-element-copy-out-item c = search needs
+item-at-requires : tie.Need-item-at-requires
+item-at-requires c κs = search needs
 
 telling-after-requires-4 : tie.Need-telling-after-requires-4
 telling-after-requires-4 c κs = search needs
@@ -39,11 +33,8 @@ telling-after-requires-4 c κs = search needs
 enum-known-after-2 : tie.Need-enum-known-after-2
 enum-known-after-2 c = search needs
 
-mul-row : tie.Need-mul-row
-mul-row c = search needs
-
-element-copy-out-row : tie.Need-element-copy-out-row
-element-copy-out-row c = search needs
+row-at-requires : tie.Need-row-at-requires
+row-at-requires c κs = search needs
 
 settle-requires : tie.Need-settle-requires
 settle-requires c κs = search needs
@@ -64,10 +55,10 @@ returns-3 : tie.Need-returns-3
 returns-3 c = simp (c .telling-after3 .ensures, c .before .enum-told3 .given .1)
 
 returns-4 : tie.Need-returns-4
-returns-4 c = simp (c .telling-after4 .ensures, c .before .before .before .after .given .1)
+returns-4 c = simp (c .telling-after4 .ensures, c .before .item-at .ensures, c .before .before .before .after .given .1)
 
 returns-5 : tie.Need-returns-5
-returns-5 c = simp (c .settle .ensures, c .before .before .before .after2 .given .1)
+returns-5 c = simp (c .settle .ensures, c .before .row-at .ensures, c .before .before .before .after2 .given .1)
 
 returns-6 : tie.Need-returns-6
 returns-6 c = simp (c .settle2 .ensures, c .before .before .after3 .given .1)
@@ -83,13 +74,10 @@ tell-spec =
     enum-told-3
     telling-after-requires-3
     enum-known-after
-    cast-n
-    mul-item
-    element-copy-out-item
+    item-at-requires
     telling-after-requires-4
     enum-known-after-2
-    mul-row
-    element-copy-out-row
+    row-at-requires
     settle-requires
     enum-known-after-3
     settle-requires-2
