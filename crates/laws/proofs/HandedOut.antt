@@ -3,7 +3,7 @@
 use Prim.Native.Nat.{ℕ, zero, suc, _%_, _<_, _≤_}
 use mathlib.Core.Path.{_≡_, refl, sym, _∙_, subst}
 use mathlib.Core.Bool.{Bool, true, false, cond}
-use mathlib.Core.Logic.{_⊎_, inl, inr}
+use mathlib.Core.Logic.{inl, inr}
 use native.Mathlib.Omega.{arith}
 use lib.Dec.{eqb}
 use native.Mathlib.Nat.{mod-eq-of-lt}
@@ -15,7 +15,6 @@ use Rattle.answer.specs.declared.Item.{Item}
 use Rattle.answer.specs.declared.Outcome.{Outcome}
 use Rattle.answer.specs.declared.Outcome.the-variants as outcome
 use Rattle.answer.specs.declared.Future.{Future}
-use Rattle.answer.specs.declared.Answer.the-variants as answer
 use Rattle.answer.specs.declared.Verdict.{Verdict}
 use Rattle.answer.specs.declared.Verdict.the-variants as verdict
 use Rattle.call.specs.Next.{nextNode, nextFuture, nextAnnouncement}
@@ -27,6 +26,7 @@ use Rattle.call.specs.declared.entry.Entry.the-variants.{Enqueue, Dequeue, Futu
 use Rattle.machine.specs.State.{rowAt, noFuture}
 use Rattle.machine.specs.Steps.{stepOf, isMore, oneMore, advance}
 use Rattle.machine.specs.Entries.{refusing, decided, linkedBehind, deferEnqueue, deferDequeue, setOff, startEnqueue, startDequeue, evaluateWaiting, evaluateOwn, evaluateKnown, enqueue, dequeue, futureEnqueue, futureDequeue, evaluate, run, apply}
+use Rattle.laws.specs.HandingOut.{AtMostOne, HandsOut}
 use Rattle.laws.proofs.StepChanges.{step-changes}
 
 -- while one is left, the next number is the count of those before, and the count after it is one more
@@ -41,15 +41,6 @@ futures-in-order u h = in-order 512 (u .futures) h (omega arith)
 
 pub announcements-in-order : (u : Used) → u .announcements < 64 → (nextAnnouncement u ≡ u .announcements) × (up (u .announcements) ≡ suc (u .announcements))
 announcements-in-order u h = in-order 64 (u .announcements) h (omega arith)
-
--- a count as it was, or one handed out
-abbrev pub AtMostOne : ℕ → ℕ → Type 0
-AtMostOne a b = (b ≡ a) ⊎ (b ≡ up a)
-
-pub record HandsOut (u v : Used) : Type 0 where
-  pub nodes : AtMostOne (u .nodes) (v .nodes)
-  pub futures : AtMostOne (u .futures) (v .futures)
-  pub announcements : AtMostOne (u .announcements) (v .announcements)
 
 nothing : (u : Used) → HandsOut u u
 nothing u = record { nodes = inl refl; futures = inl refl; announcements = inl refl }

@@ -1,14 +1,14 @@
 -- A step that does not end the call leaves the thread in it: no step of a call leads to idle but its last.
 use Prim.Native.Nat.{ℕ, _≤_}
 use mathlib.Core.Path.{_≡_, refl, sym, ap, _∙_}
-use mathlib.Core.Bool.{Bool, true, false, cond}
+use mathlib.Core.Bool.{Bool, true, false, true≢false, false≢true}
 use mathlib.Core.List.{List}
 use native.Mathlib.Omega.{arith}
 use native.Mathlib.Decide.{decLt}
 use lib.Dec.{eqb, ltb}
-use lib.ListN.{length, getD, set}
+use lib.ListN.{length, getD, set, List·getD-eq-default}
 use lib.Seq.{getD-set-same}
-use lib.ListN.{List·getD-eq-default}
+use Rattle.refusal.proofs.Tests.{either-way}
 use Rattle.cells.specs.declared.Front.{Front}
 use Rattle.cells.specs.declared.Tail.{Tail}
 use Rattle.cells.specs.declared.Head.{Head}
@@ -38,7 +38,7 @@ use Rattle.place.specs.declared.RunStep.the-variants.{A1, A2, A3, A4, A5, A6, A
 use Rattle.thread.specs.Enqueue.{enqueueAfter, afterE2, afterE4}
 use Rattle.thread.specs.Dequeue.{dequeueAfter, afterD1, afterD2, afterD3}
 use Rattle.thread.specs.Batch.{batchAfter, afterB1, afterB2}
-use Rattle.thread.specs.Dequeues.{dequeuesAfter, afterQ1, afterQ2, afterQ3, oneFurther, dequeuesAt}
+use Rattle.thread.specs.Dequeues.{dequeuesAfter, afterQ1, afterQ2, afterQ3, oneFurther}
 use Rattle.running.specs.Running.{runAfter, back}
 use Rattle.place.specs.Place.{idle, placeAfter, goesOn}
 use Rattle.thread.specs.Calls.{after}
@@ -56,10 +56,6 @@ InCall afterwards.Empty = Unit {0}
 InCall (afterwards.Item x) = Unit {0}
 InCall (afterwards.Pair x) = Unit {0}
 InCall (afterwards.PairDequeues x s) = Unit {0}
-
-by-bool : (b : Bool) (x y : After) → InCall x → InCall y → InCall (cond b x y)
-by-bool true x y p q = p
-by-bool false x y p q = q
 
 e2 : (n : ℕ) (t : Tail) (l : Link) → InCall (afterE2 n t l)
 e2 n t None = refl
@@ -113,8 +109,8 @@ q1 (Plain f) = refl
 q1 (Announced a) = refl
 
 q2 : (w : Walk) (l : Link) (d : ℕ) → InCall (afterQ2 w l d)
-q2 w None d = by-bool (eqb (w .taken) 0) (afterwards.PairDequeues (w .front .node) 0) (dequeuesAt (Q3 w)) tt refl
-q2 w (To x) d = by-bool (ltb (oneFurther w x .taken) d) (dequeuesAt (Q2 (oneFurther w x))) (dequeuesAt (Q3 (oneFurther w x))) refl refl
+q2 w None d = either-way InCall (eqb (w .taken) 0) (λ e. tt) (λ e. refl)
+q2 w (To x) d = either-way InCall (ltb (oneFurther w x .taken) d) (λ e. refl) (λ e. refl)
 
 q3 : (w : Walk) (b : Bool) → InCall (afterQ3 w b)
 q3 w true = tt
@@ -144,8 +140,8 @@ run-in-call a k r (A6 s x left) y = refl
 run-in-call a k r (A7 s x) y = back-in-call k r
 run-in-call a k r (A8 t x) y = refl
 
-after-in-call : (p : Place) (y : Found) (k : Request) (d : ℕ) → idle p ≡ false → InCall (after p y k d)
-after-in-call Idle y k d e = absurd (let z : _≡_ {A = ℕ} 0 1 = cc in omega arith)
+pub after-in-call : (p : Place) (y : Found) (k : Request) (d : ℕ) → idle p ≡ false → InCall (after p y k d)
+after-in-call Idle y k d e = absurd (true≢false e)
 after-in-call (Enqueue n s) y k d e = enqueue-in-call n s y
 after-in-call (Dequeue s) y k d e = dequeue-in-call s y
 after-in-call (Batch own s) y k d e = batch-in-call own s y
@@ -156,19 +152,16 @@ after-in-call (Running a s r) y k d e = run-in-call a k r s y
 moved-in-call : (rows : List Row) (i : ℕ) (r : Row) → idle (getD rows i noRow .place) ≡ false → idle (r .place) ≡ false → idle (getD (set rows i r) i noRow .place) ≡ false
 moved-in-call rows i r e d = elim (decLt i (length rows)) [
   | yes h ↦ ap (λ (x : Row). idle (x .place)) (getD-set-same rows i r noRow h) ∙ d
-  | no h ↦ absurd (past (sym (ap (λ (x : Row). idle (x .place)) (List·getD-eq-default rows noRow (let z : length rows ≤ i = omega arith in z))) ∙ e))
+  | no h ↦ absurd (true≢false (sym (ap (λ (x : Row). idle (x .place)) (List·getD-eq-default rows noRow (let z : length rows ≤ i = omega arith in z))) ∙ e))
 ]
-  where
-    past : true ≡ false → ⊥
-    past q = let z : _≡_ {A = ℕ} 0 1 = cc in omega arith
 
 goes-on-in-call : (a : After) → goesOn a ≡ true → InCall a → idle (placeAfter a) ≡ false
 goes-on-in-call (afterwards.On p) e h = h
-goes-on-in-call afterwards.Ok e h = absurd (let z : _≡_ {A = ℕ} 0 1 = cc in omega arith)
-goes-on-in-call afterwards.Empty e h = absurd (let z : _≡_ {A = ℕ} 0 1 = cc in omega arith)
-goes-on-in-call (afterwards.Item x) e h = absurd (let z : _≡_ {A = ℕ} 0 1 = cc in omega arith)
-goes-on-in-call (afterwards.Pair x) e h = absurd (let z : _≡_ {A = ℕ} 0 1 = cc in omega arith)
-goes-on-in-call (afterwards.PairDequeues x s) e h = absurd (let z : _≡_ {A = ℕ} 0 1 = cc in omega arith)
+goes-on-in-call afterwards.Ok e h = absurd (false≢true e)
+goes-on-in-call afterwards.Empty e h = absurd (false≢true e)
+goes-on-in-call (afterwards.Item x) e h = absurd (false≢true e)
+goes-on-in-call (afterwards.Pair x) e h = absurd (false≢true e)
+goes-on-in-call (afterwards.PairDequeues x s) e h = absurd (false≢true e)
 
 pub hop-in-call : (m : Machine) (i : ℕ) → idle (rowAt m i .place) ≡ false → goesOn (hop m i .after) ≡ true → idle (rowAt (hop m i .machine) i .place) ≡ false
 unfolding hop

@@ -1,9 +1,8 @@
--- Demand 1: a refusal changes nothing in the machine, whatever the entry and whatever the machine. An entry is decided before anything is done,
+-- Demand 1 (docs/MAP.md): a refusal changes nothing in the machine, whatever the entry and the machine. An entry is decided before anything is done,
 -- and what is done after that never answers with a refusal.
 use Prim.Native.Nat.{ℕ, zero, suc, _%_}
 use mathlib.Core.Path.{_≡_, refl, sym, ap, _∙_}
-use mathlib.Core.Bool.{Bool, true, false, cond}
-use native.Mathlib.Omega.{arith}
+use mathlib.Core.Bool.{Bool, true, false, false≢true, cond}
 use lib.ListN.{getD}
 use Rattle.refusal.specs.declared.Refusal.{Refusal}
 use Rattle.refusal.specs.declared.Refusal.the-variants.{NotOwnFuture}
@@ -51,10 +50,7 @@ refusing-honest m r s e = (refl, refl)
 
 accepted-honest : (m : Machine) (x : Told) → isRefused (x .answer) ≡ false → Honest m x
 unfolding Honest
-accepted-honest m x n r e = absurd (differ (sym n ∙ ap isRefused e))
-  where
-    differ : false ≡ true → ⊥
-    differ d = let z : _≡_ {A = ℕ} 0 1 = cc in omega arith
+accepted-honest m x n r e = absurd (false≢true (sym n ∙ ap isRefused e))
 
 decided-honest : (m : Machine) (v : Verdict) (x : Told) → Honest m x → Honest m (decided v m x)
 unfolding decided

@@ -3,7 +3,7 @@
 use Prim.Native.Nat.{ℕ, zero, suc, _+_, _≤_}
 use mathlib.Core.Path.{_≡_, refl, sym, ap, _∙_, subst}
 use mathlib.Core.Logic.{_⊎_, inl, inr}
-use mathlib.Core.Bool.{Bool, true, false}
+use mathlib.Core.Bool.{Bool, true, false, true≢false}
 use native.Mathlib.Omega.{arith}
 use Rattle.answer.specs.declared.Answer.{Answer}
 use Rattle.answer.specs.declared.Answer.the-variants.{More}
@@ -13,17 +13,13 @@ use Rattle.call.specs.declared.entry.Entry.the-variants.{Step, Run}
 use Rattle.machine.specs.Steps.{hop, tell, stepOf, isMore, oneMore, advance}
 use Rattle.machine.specs.Pairing.{settled}
 use Rattle.machine.specs.Entries.{apply}
-use Rattle.laws.specs.Counted.{stepped}
+use Rattle.laws.specs.Counted.{afterSteps, moreSteps}
 use Rattle.place.specs.declared.After.{After}
 use Rattle.place.specs.declared.After.the-variants as afterwards
 
 pub step-is-run-of-one : (m : Machine) (t : ℕ) → apply m (Step t) ≡ apply m (Run t 1)
 unfolding apply
 step-is-run-of-one m t = refl
-
--- k steps more than were told
-abbrev pub after : ℕ → Told → Told
-after k x = record { machine = x .machine; answer = x .answer; steps = k + x .steps }
 
 told-path : (x : Told) (j k : ℕ) → j ≡ k → _≡_ {A = Told} (record { machine = x .machine; answer = x .answer; steps = j }) (record { machine = x .machine; answer = x .answer; steps = k })
 told-path x j k e = λ i. record { machine = x .machine; answer = x .answer; steps = e i }
@@ -36,9 +32,6 @@ on m i n e = rw e
 ended : (m : Machine) (i n : ℕ) → isMore (stepOf m i .answer) ≡ false → advance m i (suc n) ≡ stepOf m i
 unfolding advance
 ended m i n e = rw e
-
-not-both : {b : Bool} → b ≡ true → b ≡ false → ⊥
-not-both p q = let z : _≡_ {A = ℕ} 0 1 = cc in omega arith
 
 -- what was answered is more, or is not
 more-or-not : (a : Answer) → (isMore a ≡ true) ⊎ (isMore a ≡ false)
@@ -76,9 +69,9 @@ run-induction P i p0 p1 p2 (suc n) m =
     turn h (inr f) = subst (P (suc n) m) (sym (ended m i n f)) (p2 n m f)
 
 -- Run of n and then of k
-pub run-of-sum : (k i n : ℕ) (m : Machine) → advance m i n .answer ≡ More → advance m i (n + k) ≡ after (advance m i n .steps) (advance (advance m i n .machine) i k)
+pub run-of-sum : (k i n : ℕ) (m : Machine) → advance m i n .answer ≡ More → advance m i (n + k) ≡ moreSteps (advance m i n .steps) (advance (advance m i n .machine) i k)
 run-of-sum k i =
-    run-induction (λ n m x. x .answer ≡ More → advance m i (n + k) ≡ after (x .steps) (advance (x .machine) i k)) i
+    run-induction (λ n m x. x .answer ≡ More → advance m i (n + k) ≡ moreSteps (x .steps) (advance (x .machine) i k)) i
     (λ m e.
     let all : 0 + k ≡ k = omega arith in
     ap (advance m i) all ∙ told-path (advance m i k) (advance m i k .steps) (0 + advance m i k .steps) (omega arith))
@@ -88,16 +81,16 @@ run-of-sum k i =
     ap (advance m i) one
     ∙ (on m i (n + k) t
     ∙ (ap oneMore (h e) ∙ told-path rest (suc (x .steps + rest .steps)) (suc (x .steps) + rest .steps) (omega arith))))
-    (λ n m f e. absurd (not-both (ap isMore e) f))
+    (λ n m f e. absurd (true≢false (sym (ap isMore e) ∙ f)))
 
 -- the machine that Run hands back is the one to which as many steps lead as it reports
-pub run-counts-steps : (i n : ℕ) (m : Machine) → advance m i n .machine ≡ stepped (advance m i n .steps) m i
-unfolding stepped
+pub run-counts-steps : (i n : ℕ) (m : Machine) → advance m i n .machine ≡ afterSteps (advance m i n .steps) m i
+unfolding afterSteps
 run-counts-steps i =
-    run-induction (λ n m x. x .machine ≡ stepped (x .steps) m i) i
+    run-induction (λ n m x. x .machine ≡ afterSteps (x .steps) m i) i
     (λ m. refl)
     (λ n m x t d h. h)
-    (λ n m f. ap (λ (j : ℕ). stepped j m i) (sym (step-counts-one (hop m i .machine) i 1 (hop m i .after))))
+    (λ n m f. ap (λ (j : ℕ). afterSteps j m i) (sym (step-counts-one (hop m i .machine) i 1 (hop m i .after))))
 
 -- it takes no more than it may, and all that it may where it answers more
 pub run-within-budget : (i n : ℕ) (m : Machine) → advance m i n .steps ≤ n
@@ -112,4 +105,4 @@ more-means-all-taken i =
     run-induction (λ n m x. x .answer ≡ More → x .steps ≡ n) i
     (λ m e. refl)
     (λ n m x t d h e. ap suc (h e))
-    (λ n m f e. absurd (not-both (ap isMore e) f))
+    (λ n m f e. absurd (true≢false (sym (ap isMore e) ∙ f)))

@@ -1,5 +1,5 @@
 -- How long lines are: a line of an entry has room in 64 bytes, and one of what the queue holds in 11 bytes for each item and six more.
-use Prim.Native.Nat.{ℕ, suc, _+_, _*_, _≤_}
+use Prim.Native.Nat.{ℕ, _+_, _*_, _≤_}
 use mathlib.Core.List.{List, [], _∷_, _++_}
 use native.Mathlib.Omega.{arith}
 use lib.ListN.{length, length-append}

@@ -1,11 +1,11 @@
 -- The pieces are the whole listing: the first line, the entries' lines in blocks until no entry is left, and the last line are what 01 has the program print.
 -- Why: a block of n lines and then one of k are one of n + k, and the lines follow the entries one by one, as reading does.
-use Prim.Native.Nat.{ℕ, zero, suc, _+_, _-_, _%_, _^_, _≤_, _<_}
-use mathlib.Core.Path.{_≡_, refl, sym, ap, ap₂, subst, _∙_}
+use Prim.Native.Nat.{ℕ, zero, suc, _+_, _%_, _^_, _≤_, _<_}
+use mathlib.Core.Path.{_≡_, refl, sym, ap, ap₂, _∙_}
 use mathlib.Core.Bool.{Bool, true, false}
-use mathlib.Core.List.{List, [], _∷_, _++_, append-assoc, append-nil}
+use mathlib.Core.List.{List, [], _++_, append-assoc, append-nil}
 use native.Mathlib.Omega.{arith}
-use lib.ListN.{length, take, length-take}
+use lib.ListN.{length, length-take}
 use Rattle.refusal.specs.declared.Refusal.{Refusal}
 use Rattle.call.specs.declared.entry.Entry.{Entry}
 use Rattle.answer.specs.declared.Verdict.the-variants.{Accepted, Refused}
@@ -14,16 +14,13 @@ use Rattle.schedule.specs.declared.read.SetUpReading.the-variants as setup
 use Rattle.schedule.specs.declared.read.EntryReading.{EntryReading}
 use Rattle.schedule.specs.declared.read.EntryReading.the-variants as entry
 use Rattle.schedule.specs.Read.{setUpOf, entryAt}
-use Rattle.schedule.specs.Schedule.{Entries, ended, refused, goOn, entriesUpTo, entriesFrom}
+use Rattle.schedule.specs.Schedule.{Entries, goOn, entriesUpTo, entriesFrom}
 use Rattle.schedule.proofs.Within.{entry-within}
 use Rattle.schedule.proofs.Endings.{bound-not-met}
-use Rattle.machine.specs.declared.Machine.{Machine}
 use Rattle.machine.specs.State.{freshMachine}
-use Rattle.machine.specs.Entries.{apply}
-use Rattle.contents.specs.Contents.{contents, depth}
 use Rattle.listing.specs.declared.Listing.{Listing}
-use Rattle.listing.specs.Text.{queueText, setUpText}
-use Rattle.listing.specs.Listing.{entryLine, entryLines, afterSetUp, counted, listing}
+use Rattle.listing.specs.Text.{setUpText}
+use Rattle.listing.specs.Listing.{entryLines, afterSetUp, counted, listing}
 use Rattle.listing.specs.Pieces.{Piece, opened, openedBy, beginning, firstLine, lastLine, stopped, byReading, entered, nextLine, before, lines}
 use Rattle.listing.proofs.Blocks.{no-more-lines}
 

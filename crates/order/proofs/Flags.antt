@@ -12,7 +12,7 @@ use lib.ListN.{length, getD, set, length-set}
 use lib.Seq.{getD-set-same, getD-set-other}
 use Rattle.chain.specs.Positions.{At}
 use Rattle.chain.proofs.Positions.{within, there-or-at-the-end}
-use Rattle.tally.specs.Fifo.{Call, enqueue}
+use Rattle.tally.specs.Fifo.{Call}
 use Rattle.tally.specs.Tally.{up}
 use Rattle.row.specs.declared.Row.{Row}
 use Rattle.answer.specs.declared.Future.{Future}

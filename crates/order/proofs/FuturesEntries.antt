@@ -43,7 +43,7 @@ use Rattle.order.proofs.SettingOff.{set-off-either}
 use Rattle.order.proofs.Outcomes.{waits-or-done, given-alone}
 use Rattle.order.proofs.Reached.{Holds}
 use Rattle.order.proofs.Futured.{BatchInCall, Futured}
-use Rattle.order.proofs.FuturesKept.{Puts, in-call-here, Tells, nothing-paid, still-futured}
+use Rattle.order.proofs.FuturesKept.{Puts, in-call-here, StoryLeft, nothing-paid, still-futured}
 use Rattle.order.proofs.FuturesDeferred.{deferred-left}
 
 -- an idle thread is in no call
@@ -52,10 +52,10 @@ module _ (m : Machine) (g : Ghost) (s : Story) (i : ℕ) (idle : rowAt m i .plac
   in-no-call c w e = w .inCall .busy (ap (λ (t : ℕ). rowAt m t .place) e ∙ idle)
 
   -- nothing takes effect and nothing is linked
-  tells-idle : (m′ : Machine) (g′ : Ghost) (s′ : Story) → s .clock ≤ s′ .clock → s′ .order ≡ s .order → g′ .by ≡ g .by
+  story-left-idle : (m′ : Machine) (g′ : Ghost) (s′ : Story) → s .clock ≤ s′ .clock → s′ .order ≡ s .order → g′ .by ≡ g .by
       → ((j : ℕ) (x : Given) → At (s′ .given) j x → At (s .given) j x ⊎ Stands (s′ .order) x)
-      → ((a : ℕ) (c : Called) → At (s′ .announced) a c → At (s .announced) a c ⊎ BatchInCall m′ s′ c) → Tells m g s i m′ g′ s′
-  tells-idle m′ g′ s′ later order by given announced = record {
+      → ((a : ℕ) (c : Called) → At (s′ .announced) a c → At (s .announced) a c ⊎ BatchInCall m′ s′ c) → StoryLeft m g s i m′ g′ s′
+  story-left-idle m′ g′ s′ later order by given announced = record {
     later = later;
     order = inl order;
     given = given;
@@ -66,21 +66,18 @@ module _ (m : Machine) (g : Ghost) (s : Story) (i : ℕ) (idle : rowAt m i .plac
   }
 
 module _ (m : Machine) (g : Ghost) (s : Story) (holds : Holds m g) (h : Futured m g s) (i : ℕ) (free : Free m i) where
-  abbrev calledNow : Called → Remembered
-  calledNow c = nowIn (of s i) c
-
   pub puts : (m′ : Machine) (s′ : Story) (row : Row) (r : Remembered) → m′ .rows ≡ set (m .rows) i row → s′ .threads ≡ set (s .threads) i r → Puts m s i m′ s′ row r
   puts m′ s′ row r put thread = record { small = free .small; rows = holds .ok .rows; threads = h .threads; putRow = put; putThread = thread }
 
   -- a call is begun: what is pending and the futures stay; an announcement that it has is going on
-  begun : (c : Called) (m′ : Machine) (g′ : Ghost) (s′ : Story) (row : Row) → m′ .rows ≡ set (m .rows) i row → s′ .threads ≡ set (s .threads) i (calledNow c)
+  begun : (c : Called) (m′ : Machine) (g′ : Ghost) (s′ : Story) (row : Row) → m′ .rows ≡ set (m .rows) i row → s′ .threads ≡ set (s .threads) i (nowIn (of s i) c)
       → row .pending ≡ rowAt m i .pending → m′ .futures ≡ m .futures → m′ .used .futures ≡ m .used .futures → g′ .pending ≡ g .pending → g′ .by ≡ g .by
       → s .clock ≤ s′ .clock → s′ .order ≡ s .order → s′ .given ≡ s .given
       → ((a : ℕ) (d : Called) → At (s′ .announced) a d → At (s .announced) a d ⊎ BatchInCall m′ s′ d) → Futured m′ g′ s′
   begun c m′ g′ s′ row put thread places futures used pending by later order given announced =
-      let p = puts m′ s′ row (calledNow c) put thread in
-      still-futured m g s h i m′ g′ s′ row (calledNow c) p (nothing-paid m g s h i m′ g′ s′ row (calledNow c) p places refl refl futures used pending)
-      (tells-idle m g s i (free .idle) m′ g′ s′ later order by (λ j x q. inl (subst (λ (l : List Given). At l j x) given q)) announced)
+      let p = puts m′ s′ row (nowIn (of s i) c) put thread in
+      still-futured m g s h i m′ g′ s′ row (nowIn (of s i) c) p (nothing-paid m g s h i m′ g′ s′ row (nowIn (of s i) c) p places refl refl futures used pending)
+      (story-left-idle m g s i (free .idle) m′ g′ s′ later order by (λ j x q. inl (subst (λ (l : List Given). At l j x) given q)) announced)
 
   enqueue-started : (v : ℕ) → Futured (does m (EnqueueStarts i v)) (ghostDoes m g (EnqueueStarts i v)) (happens m s (EnqueueStarts i v))
   enqueue-started v =
@@ -108,7 +105,7 @@ module _ (m : Machine) (g : Ghost) (s : Story) (holds : Holds m g) (h : Futured 
     set-off-so m′ g′ p busy put futures used pending by =
         begun batch m′ g′ s′ (calling (rowAt m i) p f) put refl refl futures used pending by (omega arith) refl refl
         (λ a d q. ⊎-elim inl
-        (λ e. inr (subst (BatchInCall m′ s′) (sym e) (in-call-here (puts m′ s′ (calling (rowAt m i) p f) (calledNow batch) put refl) batch refl refl busy refl)))
+        (λ e. inr (subst (BatchInCall m′ s′) (sym e) (in-call-here (puts m′ s′ (calling (rowAt m i) p f) (nowIn (of s i) batch) put refl) batch refl refl busy refl)))
         (old-or-own a d q))
 
     batch-set-off : Futured (does m (BatchSetOff i f)) (ghostDoes m g (BatchSetOff i f)) s′
@@ -129,7 +126,7 @@ module _ (m : Machine) (g : Ghost) (s : Story) (holds : Holds m g) (h : Futured 
     deferred-futured c x owner waits m′ g′ row put places futures used pending by =
         still-futured m g s h i m′ g′ _ row (deferredNow c) p
         (deferred-left m g s holds h i room few c x owner waits m′ g′ _ row (deferredNow c) p places refl refl futures used pending)
-        (tells-idle m g s i (free .idle) m′ g′ _ (omega arith) refl by (λ j y q. inl q) (λ a d q. inl q))
+        (story-left-idle m g s i (free .idle) m′ g′ _ (omega arith) refl by (λ j y q. inl q) (λ a d q. inl q))
       where
         p : Puts m s i m′ (defers s i c (nextFuture (m .used))) row (deferredNow c)
         p = puts m′ _ row (deferredNow c) put refl
@@ -160,7 +157,7 @@ module _ (m : Machine) (g : Ghost) (s : Story) (holds : Holds m g) (h : Futured 
     future-asked : Futured m g (happens m s (FutureAsked i f))
     future-asked =
         still-futured m g s h i m g _ (rowAt m i) (of s i) p (nothing-paid m g s h i m g _ (rowAt m i) (of s i) p refl refl refl refl refl refl)
-        (tells-idle m g s i (free .idle) m g _ (omega arith) refl refl
+        (story-left-idle m g s i (free .idle) m g _ (omega arith) refl refl
         (λ j x q. ⊎-elim inl (λ w. inr (asked-stands (w .0) x (w .2))) (in-either (s .given) _ j q)) (λ a d q. inl q))
       where
         p : Puts m s i m (happens m s (FutureAsked i f)) (rowAt m i) (of s i)

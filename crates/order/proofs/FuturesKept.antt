@@ -82,8 +82,8 @@ pub record FuturesLeft (m : Machine) (g : Ghost) (s : Story) (i : ℕ) (m′ : M
   pub results : (f : ℕ) (r : Result ℕ) → f < m′ .used .futures → futureIn m′ f .outcome ≡ outcomeOf r
       → ((f < m .used .futures) × (futureIn m f .outcome ≡ outcomeOf r)) ⊎ Stands (s′ .order) (futureGiven (futureIn m′ f .owner) f r (s′ .clock))
 
--- what is told of it, and of the batch that thread i is in: it goes on, or its futures are done and its announcement was linked
-pub record Tells (m : Machine) (g : Ghost) (s : Story) (i : ℕ) (m′ : Machine) (g′ : Ghost) (s′ : Story) : Type 0 where
+-- what is left of the story, and of the batch that thread i is in: it goes on, or its futures are done and its announcement was linked
+pub record StoryLeft (m : Machine) (g : Ghost) (s : Story) (i : ℕ) (m′ : Machine) (g′ : Ghost) (s′ : Story) : Type 0 where
   pub later : s .clock ≤ s′ .clock
   pub order : OrderAfter m s (s′ .order)
   pub given : (j : ℕ) (x : Given) → At (s′ .given) j x → At (s .given) j x ⊎ Stands (s′ .order) x
@@ -151,7 +151,7 @@ stands-later t f r now then le h = record { row = h .row; there = h .there; thre
 
 -- AFTER WHAT THREAD i DOES
 module _ (m : Machine) (g : Ghost) (s : Story) (h : Futured m g s) (i : ℕ) (m′ : Machine) (g′ : Ghost) (s′ : Story) (row : Row) (r : Remembered)
-    (p : Puts m s i m′ s′ row r) (left : FuturesLeft m g s i m′ g′ s′) (tells : Tells m g s i m′ g′ s′) where
+    (p : Puts m s i m′ s′ row r) (left : FuturesLeft m g s i m′ g′ s′) (story : StoryLeft m g s i m′ g′ s′) where
   still-own : (t f : ℕ) → OwnFuture m t f → OwnFuture m′ t f
   still-own t f w = record { handedOut = omega (arith, w .handedOut, left .more); owner = left .owners f (w .handedOut) ∙ w .owner }
 
@@ -193,7 +193,7 @@ module _ (m : Machine) (g : Ghost) (s : Story) (h : Futured m g s) (i : ℕ) (m�
   done-after f o lt e =
       ⊎-elim {C = Stands (s′ .order) (futureGiven (futureIn m′ f .owner) f o (s′ .clock))}
       (λ w. subst (λ (u : ℕ). Stands (s′ .order) (futureGiven u f o (s′ .clock))) (sym (left .owners f (w .0)))
-      (stands-later _ f o (s .clock) (s′ .clock) (tells .later) (stands-on _ (run-as-before m g s h (s′ .order) (tells .order)) (h .done f o (w .0) (w .1)))))
+      (stands-later _ f o (s .clock) (s′ .clock) (story .later) (stands-on _ (run-as-before m g s h (s′ .order) (story .order)) (h .done f o (w .0) (w .1)))))
       (λ w. w)
       (left .results f o lt e)
 
@@ -202,18 +202,18 @@ module _ (m : Machine) (g : Ghost) (s : Story) (h : Futured m g s) (i : ℕ) (m�
   rows-after j a f x there q = (still-own (x .call .thread) f (w .0), ⊎-elim (λ done. inl (still-done f (w .0 .handedOut) done)) in-call (w .1))
     where
       w : OwnFuture m (x .call .thread) f × ((futureIn m f .outcome ≢ Waiting) ⊎ BatchInCall m s (x .call))
-      w = owned-after m g s h (s′ .order) (tells .order) j a f x there q
+      w = owned-after m g s h (s′ .order) (story .order) j a f x there q
 
       in-call : BatchInCall m s (x .call) → (futureIn m′ f .outcome ≢ Waiting) ⊎ BatchInCall m′ s′ (x .call)
-      in-call c = elim (ℕ-discrete (x .call .thread) i) [ yes e ↦ tells .ended (x .call) c e a f q | no ne ↦ inr (still-in-call (x .call) c ne) ]
+      in-call c = elim (ℕ-discrete (x .call .thread) i) [ yes e ↦ story .ended (x .call) c e a f q | no ne ↦ inr (still-in-call (x .call) c ne) ]
 
   going-after : (a : ℕ) (c : Called) → NotLinked g′ a → At (s′ .announced) a c → BatchInCall m′ s′ c
-  going-after a c not there = ⊎-elim {C = BatchInCall m′ s′ c} old (λ w. w) (tells .announced a c there)
+  going-after a c not there = ⊎-elim {C = BatchInCall m′ s′ c} old (λ w. w) (story .announced a c there)
     where
       old : At (s .announced) a c → BatchInCall m′ s′ c
       old q =
-          let w = h .going a c (tells .unlinked a not) q in
-          elim (ℕ-discrete (c .thread) i) [ yes e ↦ tells .going a c not q w e | no ne ↦ still-in-call c w ne ]
+          let w = h .going a c (story .unlinked a not) q in
+          elim (ℕ-discrete (c .thread) i) [ yes e ↦ story .going a c not q w e | no ne ↦ still-in-call c w ne ]
 
   pub still-futured : Futured m′ g′ s′
   still-futured = record {
@@ -221,8 +221,8 @@ module _ (m : Machine) (g : Ghost) (s : Story) (h : Futured m g s) (i : ℕ) (m�
     each = λ t lt. elim (ℕ-discrete t i) [ yes e ↦ subst (PendingFutures m′ g′ s′) (sym e) (left .mine) | no ne ↦ pending-elsewhere t lt ne ];
     waiting = waiting-after;
     done = done-after;
-    given = λ j x q. ⊎-elim {C = Stands (s′ .order) x} (λ w. stands-on x (run-as-before m g s h (s′ .order) (tells .order)) (h .given j x w)) (λ w. w) (tells .given j x q);
+    given = λ j x q. ⊎-elim {C = Stands (s′ .order) x} (λ w. stands-on x (run-as-before m g s h (s′ .order) (story .order)) (h .given j x w)) (λ w. w) (story .given j x q);
     rows = rows-after;
-    onceEach = once-each-after m g s h (s′ .order) (tells .order);
+    onceEach = once-each-after m g s h (s′ .order) (story .order);
     going = going-after;
   }

@@ -30,7 +30,7 @@ use Rattle.order.specs.Outcomes.{outcomeOf}
 use Rattle.order.proofs.Events.{futureIn, OwnFuture}
 use Rattle.order.proofs.Ghost.{Ghost, stepGhost, defers}
 use Rattle.order.proofs.Steps.{pending-kept}
-use Rattle.order.proofs.PairingSteps.{row-left}
+use Rattle.order.proofs.RowPut.{row-moved}
 use Rattle.order.proofs.PairingCounts.{futures-kept}
 use Rattle.order.proofs.PairingWrites.{as-many-outcomes, owners-kept, other-future, paired-future}
 use Rattle.order.proofs.Outcomes.{waits-or-done, result-waits-not, one-result, given-alone}
@@ -51,7 +51,7 @@ module _ (m : Machine) (g : Ghost) (s : Story) (holds : Holds m g) (h : Futured 
   before = h .each i lt
 
   row : rowAt m₁ i ≡ placed (rowAt m i) (placeAfter (hop m i .after))
-  row = row-left m g (holds .ok) i lt
+  row = row-moved m i (holds .ok .rows) lt
 
   abbrev paid : ℕ
   paid = rowAt m₁ i .count % 33

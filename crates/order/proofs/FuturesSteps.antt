@@ -9,7 +9,6 @@ use mathlib.Core.Option.{Option, some}
 use mathlib.Core.Logic.{_⊎_, inl, inr, ⊎-elim, _≢_}
 use native.Mathlib.Omega.{arith}
 use lib.ListN.{length, getD, set}
-use lib.Seq.{set-set}
 use Rattle.chain.specs.Positions.{at, At}
 use Rattle.chain.proofs.Positions.{within, in-either, empty-without-length}
 use Rattle.tally.specs.Fifo.{Call}
@@ -20,17 +19,16 @@ use Rattle.place.specs.Place.{placeAfter}
 use Rattle.row.specs.Row.{placed, cleared}
 use Rattle.answer.specs.declared.Answer.{Answer}
 use Rattle.answer.specs.declared.Answer.the-variants as answer
-use Rattle.answer.specs.declared.Outcome.{Outcome}
-use Rattle.answer.specs.declared.Outcome.the-variants as outcome
 use Rattle.answer.specs.declared.Outcome.the-variants.{Waiting}
 use Rattle.pairing.specs.declared.Cursor.{Cursor}
-use Rattle.answer.specs.Answer.{answered}
 use Rattle.machine.specs.declared.Machine.{Machine}
 use Rattle.machine.specs.State.{rowAt, memoryOf}
-use Rattle.machine.specs.Pairing.{pairing, settled}
+use Rattle.machine.specs.Pairing.{settled}
 use Rattle.machine.specs.Steps.{hop, tell, stepOf, isMore}
 use Rattle.order.specs.Order.{Called, Effect, Given, Remembered, Story, of, gives, stepOrder, stepTaken, steppedOn, lastReadAt}
 use Rattle.order.specs.PlainQueue.{Stands}
+use Rattle.laws.proofs.Sums.{settled-is-no-more}
+use Rattle.order.proofs.RowPut.{rows-moved, rows-cleared}
 use Rattle.order.proofs.Events.{futureIn}
 use Rattle.order.proofs.Ghost.{Ghost, stepGhost, endGhost, defers, stepOfGhost}
 use Rattle.order.proofs.Invariant.{NotLinked}
@@ -40,15 +38,8 @@ use Rattle.order.proofs.MachineSteps.{grows₁, knows₁}
 use Rattle.order.proofs.Reached.{Holds}
 use Rattle.order.proofs.InCall.{stays-in-call}
 use Rattle.order.proofs.Futured.{BatchInCall, Futured, OrderAfter, NoneGoing, SingleEnds, BatchEnds, EndsWith}
-use Rattle.order.proofs.FuturesKept.{Puts, in-call-here, FuturesLeft, Tells, nothing-paid, still-futured}
+use Rattle.order.proofs.FuturesKept.{Puts, in-call-here, FuturesLeft, StoryLeft, nothing-paid, still-futured}
 use Rattle.order.proofs.FuturesPaid.{paid-is-done, answer-stands, paid-left}
-
--- the answer that gives an outcome ends the call
-answered-ends : (o : Outcome) → isMore (answered o) ≡ false
-answered-ends Waiting = refl
-answered-ends outcome.Ok = refl
-answered-ends (outcome.Item v) = refl
-answered-ends outcome.Empty = refl
 
 module _ (m : Machine) (g : Ghost) (s : Story) (holds : Holds m g) (h : Futured m g s) (i : ℕ) (lt : i < 8)
     (order : OrderAfter m s (stepOrder (memoryOf m) s i (rowAt m i .place))) where
@@ -85,12 +76,12 @@ module _ (m : Machine) (g : Ghost) (s : Story) (holds : Holds m g) (h : Futured 
   has-its-futures : (c : Called) → BatchInCall m s c → c .thread ≡ i → c .futures ≡ of s i .futures
   has-its-futures c w e = w .futures ∙ ap (λ (t : ℕ). of s t .futures) e
 
-  -- what is told: nothing is unlinked, and no announcement is new
-  step-tells : (a : Answer) (m′ : Machine) (g′ : Ghost) → g′ .by ≡ g₁ .by → ((j : ℕ) (x : Given) → At (gave a) j x → Stands order′ x)
+  -- what a step leaves of the story: nothing is unlinked, and no announcement is new
+  story-left : (a : Answer) (m′ : Machine) (g′ : Ghost) → g′ .by ≡ g₁ .by → ((j : ℕ) (x : Given) → At (gave a) j x → Stands order′ x)
       → ((c : Called) → BatchInCall m s c → c .thread ≡ i → (b f : ℕ) → At (c .futures) b f → (futureIn m′ f .outcome ≢ Waiting) ⊎ BatchInCall m′ (told a) c)
       → ((b : ℕ) (c : Called) → NotLinked g′ b → At (s .announced) b c → BatchInCall m s c → c .thread ≡ i → BatchInCall m′ (told a) c)
-      → Tells m g s i m′ g′ (told a)
-  step-tells a m′ g′ by stands ended going = record {
+      → StoryLeft m g s i m′ g′ (told a)
+  story-left a m′ g′ by stands ended going = record {
     later = omega arith;
     order = order;
     given = λ j x q. ⊎-elim inl (λ w. inr (stands (w .0) x (w .2))) (in-either (s .given) (gave a) j q);
@@ -106,14 +97,7 @@ module _ (m : Machine) (g : Ghost) (s : Story) (holds : Holds m g) (h : Futured 
 
   -- a step that pays nothing
   puts : (a : After) → hop m i .after ≡ a → (n : Answer) → Puts m s i m₁ (told n) (placed (rowAt m i) (placeAfter a)) (remembers (isMore n))
-  unfolding hop
-  puts a e n = record {
-    small = lt;
-    rows = holds .ok .rows;
-    threads = h .threads;
-    putRow = ap (λ (x : After). set (m .rows) i (placed (rowAt m i) (placeAfter x))) e;
-    putThread = refl;
-  }
+  puts a e n = record { small = lt; rows = holds .ok .rows; threads = h .threads; putRow = rows-moved m i a e; putThread = refl }
 
   nothing-paid-here : (a : After) → hop m i .after ≡ a → (n : Answer) → remembers (isMore n) .calls ≡ of s i .calls → remembers (isMore n) .futures ≡ of s i .futures
       → FuturesLeft m g s i m₁ g₁ (told n)
@@ -127,7 +111,7 @@ module _ (m : Machine) (g : Ghost) (s : Story) (holds : Holds m g) (h : Futured 
   goes-on p e =
       still-futured m g s h i m₁ g₁ (told answer.More) (placed (rowAt m i) p) (remembers true) (puts (afterwards.On p) e answer.More)
       (nothing-paid-here (afterwards.On p) e answer.More refl refl)
-      (step-tells answer.More m₁ g₁ refl (λ j x q. absurd (omega (arith, within (gave answer.More) j q)))
+      (story-left answer.More m₁ g₁ refl (λ j x q. absurd (omega (arith, within (gave answer.More) j q)))
       (λ c w is b f q. inr (still c w is)) (λ b c not q w is. still c w is))
     where
       still : (c : Called) → BatchInCall m s c → c .thread ≡ i → BatchInCall m₁ (told answer.More) c
@@ -141,7 +125,7 @@ module _ (m : Machine) (g : Ghost) (s : Story) (holds : Holds m g) (h : Futured 
   single-ends a e ended alone ends =
       still-futured m g s h i m₁ g₁ (told n) (placed (rowAt m i) (placeAfter a)) (remembers (isMore n)) (puts a e n)
       (nothing-paid-here a e n (ap (λ (b : Bool). remembers b .calls) ended ∙ sym no-calls) (ap (λ (b : Bool). remembers b .futures) ended ∙ sym no-futures))
-      (step-tells n m₁ g₁ refl (λ j x q. ends .stands j x (subst (λ (y : After). At (gave (tell m₁ i 1 y .answer)) j x) (sym e) q))
+      (story-left n m₁ g₁ refl (λ j x q. ends .stands j x (subst (λ (y : After). At (gave (tell m₁ i 1 y .answer)) j x) (sym e) q))
       (λ c w is b f q. absurd (omega (arith, within (c .futures) b q, ap length (has-its-futures c w is ∙ no-futures))))
       (λ b c. none-is-going g₁ (BatchInCall m₁ (told n) c) (ends .none) b c))
     where
@@ -155,19 +139,11 @@ module _ (m : Machine) (g : Ghost) (s : Story) (holds : Holds m g) (h : Futured 
       no-futures = empty-without-length (of s i .futures) (h .each i lt .many ∙ ap length no-calls)
 
   -- it ends a batch
-  row-cleared : (c : Cursor) → settled m₁ i 1 c .machine .rows ≡ set (m .rows) i (cleared (rowAt m₁ i))
-  unfolding hop settled pairing
-  row-cleared c = set-set (m .rows) i (placed (rowAt m i) (placeAfter (hop m i .after))) (cleared (rowAt m₁ i))
-
-  batch-answered : (c : Cursor) → isMore (settled m₁ i 1 c .answer) ≡ false
-  unfolding settled
-  batch-answered c = answered-ends (futureIn (pairing m₁ i c) (rowAt m₁ i .future) .outcome)
-
   batch-ends : (c : Cursor) → BatchEnds m (defers g₁ i []) s i order′ c → Futured (settled m₁ i 1 c .machine) (defers g₁ i []) (told (settled m₁ i 1 c .answer))
   batch-ends c ends =
       still-futured m g s h i m′ g₂ s′ (cleared (rowAt m₁ i)) (remembers false) p
       (paid-left m g s holds h i lt g₂ s′ c ends (omega arith) (remembers false) p refl refl)
-      (step-tells (settled m₁ i 1 c .answer) m′ g₂ refl (answer-stands m g s holds h i lt g₂ s′ c ends)
+      (story-left (settled m₁ i 1 c .answer) m′ g₂ refl (answer-stands m g s holds h i lt g₂ s′ c ends)
       (λ d w is b f q. inl (paid-is-done m g s holds h i lt g₂ s′ c ends f (b, subst (λ (l : List ℕ). At l b f) (has-its-futures d w is) q)))
       (λ b d. none-is-going g₂ (BatchInCall m′ s′ d) (ends .none) b d))
     where
@@ -185,8 +161,8 @@ module _ (m : Machine) (g : Ghost) (s : Story) (holds : Holds m g) (h : Futured 
         small = lt;
         rows = holds .ok .rows;
         threads = h .threads;
-        putRow = row-cleared c;
-        putThread = ap (λ (b : Bool). set (s .threads) i (remembers b)) (batch-answered c);
+        putRow = rows-cleared m i 1 c;
+        putThread = ap (λ (b : Bool). set (s .threads) i (remembers b)) (settled-is-no-more m₁ i 1 c);
       }
 
   pub step-futured : EndsWith m (stepOfGhost m g i) s i (stepOrder (memoryOf m) s i (rowAt m i .place)) (hop m i .after)

@@ -1,5 +1,5 @@
--- Handing out, as the order uses it: the law says which number comes next, and so what the threads share afterwards. No other file here looks
--- at how a number is chosen.
+-- Handing out of nodes and announcements, as the order uses it: the law says which number comes next, and so what the threads share afterwards.
+-- (Futures are not shared; where one is handed out, Events, Flags and FuturesDeferred cite the law themselves.)
 use Prim.Native.Nat.{suc, _+_, _<_}
 use mathlib.Core.Path.{_≡_, _∙_}
 use native.Mathlib.Omega.{arith}

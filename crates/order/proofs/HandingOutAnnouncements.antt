@@ -17,7 +17,7 @@ use Rattle.order.proofs.Shared.{Shared, announcing, announcement-set, o
 use Rattle.order.proofs.Invariant.{FrontAt, Shape, Asks, Inv}
 use Rattle.order.proofs.Knows.{Mine, Private, NotAnnounced, requestOf}
 use Rattle.order.proofs.Grows.{Grows, Spares}
-use Rattle.order.proofs.NothingLinked.{link-steps-stay, tail-stays, linked-as-before, was-linked, shape-stays, owned-node-handed-out, announcement-handed-out, owned-announcement-handed-out}
+use Rattle.order.proofs.NothingLinked.{link-steps-stay, tail-stays, linked-as-before, was-linked, shape-stays, owned-node-handed-out, batch-handed-out, owned-announcement-handed-out}
 
 abbrev pub asking : Request → Announcement
 asking k = record { request = k; «old_tail» = Unset }
@@ -46,7 +46,7 @@ module _ (s : Shared) (g : Ghost) (i : Inv s g) (t : ℕ) (k : Request) (b : Bat
 
   -- one that is installed is an old one
   installed-handed-out : (a : ℕ) → In (g .installed) a → a < s .announced
-  installed-handed-out a h = let c = i .head .hasBatch a h in announcement-handed-out s g i a (c .0) (c .1)
+  installed-handed-out a h = let c = i .head .hasBatch a h in batch-handed-out s g i a (c .0) (c .1)
 
   installed-stays : (a : ℕ) → In (g .installed) a → announcementAt (announcementHandedOut s k .announcements) a ≡ announcementAt (s .announcements) a
   installed-stays a h = old-stays a (installed-handed-out a h)
@@ -59,7 +59,7 @@ module _ (s : Shared) (g : Ghost) (i : Inv s g) (t : ℕ) (k : Request) (b : Bat
 
   -- of the batches that were there, and of the new one
   asks-still : (a : ℕ) (c : Batch) → At (g .batches) a c ⊎ ((a ≡ length (g .batches)) × (c ≡ b)) → Asks (announcementAt (announcementHandedOut s k .announcements) a) c
-  asks-still a c (inl p) = subst (λ (x : Announcement). Asks x c) (sym (old-stays a (announcement-handed-out s g i a c p))) (i .batches .asks a c p)
+  asks-still a c (inl p) = subst (λ (x : Announcement). Asks x c) (sym (old-stays a (batch-handed-out s g i a c p))) (i .batches .asks a c p)
   asks-still a c (inr p) =
       let same : a ≡ s .announced = omega (arith, p .0, i .batches .counted) in
       let is = ap (λ (a : ℕ). announcementAt (announcementHandedOut s k .announcements) a) same ∙ new-is in

@@ -5,7 +5,7 @@ use mathlib.Core.List.{List, []}
 use mathlib.Core.Option.{none}
 use mathlib.Core.Logic.{_⊎_}
 use lib.ListN.{length}
-use Rattle.chain.specs.Positions.{at, At, In}
+use Rattle.chain.specs.Positions.{At, In}
 use Rattle.chain.specs.Chain.{Chain}
 use Rattle.tally.specs.Tally.{tallyOf, successfulOn}
 use Rattle.cells.specs.declared.Tail.{Tail}

@@ -1,13 +1,13 @@
 -- What stands beside the machine tells of the link steps taken: its chain is the linked nodes, and link step j ended where the nodes of the
 -- first j link steps end.
-use Prim.Native.Nat.{ℕ, zero, suc, _+_, _<_, _≤_}
+use Prim.Native.Nat.{ℕ, suc, _+_, _<_, _≤_}
 use mathlib.Core.Path.{_≡_, refl, sym, ap, _∙_, subst}
 use mathlib.Core.List.{List, [], _∷_, _++_, append-assoc, append-nil}
 use mathlib.Core.Option.{Option, none, some}
 use native.Mathlib.Omega.{arith}
 use native.Mathlib.Decide.{decLe}
 use lib.ListN.{length, take, length-append}
-use lib.Seq.{take-all}
+use lib.Seq.{take-all, take-append-le}
 use Rattle.chain.specs.Positions.{at, At, In}
 use Rattle.chain.proofs.Positions.{within, stays, at-the-end, length-one-more}
 use Rattle.chain.proofs.Following.{meets-the-rest, none-is-the-last}
@@ -56,11 +56,6 @@ unfolding together
 together-append [] b = refl
 together-append (l ∷ a) b = ap (λ (z : List ℕ). l ++ z) (together-append a b) ∙ sym (append-assoc l (together a) (together b))
 
-take-left : {A : Type 0} (j : ℕ) (a b : List A) → j ≤ length a → take j (a ++ b) ≡ take j a
-take-left zero a b h = refl
-take-left (suc j) [] b h = absurd (omega arith)
-take-left (suc j) (x ∷ a) b h = ap (λ (z : List _). x ∷ z) (take-left j a b (omega arith))
-
 pub one-more : (steps : List (List ℕ)) (l : List ℕ) → together (steps ++ (l ∷ [])) ≡ together steps ++ l
 unfolding together
 one-more steps l = together-append steps (l ∷ []) ∙ ap (λ (z : List ℕ). together steps ++ z) (append-nil l)
@@ -79,7 +74,7 @@ joins-tells g steps h t l who e = record {
     end-is = omega (arith, e, ap length (h .chain), ap length (one-more steps l), length-append (together steps) l)
 
     earlier : (j : ℕ) → j ≤ length steps → At (g .ends ++ (end ∷ [])) j (length (together (take j (steps ++ (l ∷ [])))))
-    earlier j y = stays (g .ends) (end ∷ []) j (h .ends j y) ∙ ap (λ (x : List (List ℕ)). some (length (together x))) (sym (take-left j steps (l ∷ []) y))
+    earlier j y = stays (g .ends) (end ∷ []) j (h .ends j y) ∙ ap (λ (x : List (List ℕ)). some (length (together x))) (sym (take-append-le j steps (l ∷ []) y))
 
     last : (j : ℕ) → j ≤ length (steps ++ (l ∷ [])) → (j ≤ length steps → ⊥) → At (g .ends ++ (end ∷ [])) j (length (together (take j (steps ++ (l ∷ [])))))
     last j le n =

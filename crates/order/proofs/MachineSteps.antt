@@ -5,7 +5,6 @@ use mathlib.Core.List.{List, []}
 use mathlib.Core.Logic.{_≢_}
 use native.Mathlib.Omega.{arith}
 use lib.ListN.{length, getD, set, length-set}
-use lib.Seq.{set-set}
 use Rattle.tally.specs.Fifo.{Call}
 use Rattle.tally.specs.Tally.{tallyOf}
 use Rattle.tally.proofs.Counts.{tally-of-none}
@@ -14,13 +13,13 @@ use Rattle.place.specs.declared.Place.the-variants.{Idle}
 use Rattle.place.specs.declared.After.{After}
 use Rattle.place.specs.declared.After.the-variants as afterwards
 use Rattle.place.specs.Place.{placeAfter}
-use Rattle.row.specs.declared.Row.{Row}
 use Rattle.row.specs.Row.{placed, cleared}
 use Rattle.pairing.specs.declared.Cursor.{Cursor}
 use Rattle.machine.specs.declared.Machine.{Machine}
 use Rattle.machine.specs.State.{rowAt, memoryOf}
 use Rattle.machine.specs.Pairing.{pairing, settled}
 use Rattle.machine.specs.Steps.{accessed, hop, tell, stepOf}
+use Rattle.order.proofs.RowPut.{rows-moved, rows-cleared}
 use Rattle.order.proofs.Ghost.{Ghost, pendingOf, stepGhost, defers, endGhost}
 use Rattle.order.proofs.Shared.{sharedOf}
 use Rattle.order.proofs.Invariant.{Inv}
@@ -42,39 +41,35 @@ module _ (m : Machine) (g : Ghost) (ok : Ok m g) (i : ℕ) (lt : i < 8) where
   pendings-kept : g₁ .pending ≡ g .pending
   pendings-kept = pending-kept (memoryOf m) g (rowAt m i .place)
 
-  still-tallied : (p : Place) → Tallied g₁ i (placed (rowAt m i) p)
+  pub still-tallied : (p : Place) → Tallied g₁ i (placed (rowAt m i) p)
   still-tallied p =
       let h = ok .knows i lt .tallied in
       let same : pendingOf g₁ i ≡ pendingOf g i = ap (λ (l : List (List (Call ℕ))). getD l i []) pendings-kept in
       record { tally = h .tally ∙ sym (ap tallyOf same); count = h .count ∙ sym (ap length same); few = omega (arith, h .few, ap length same) }
 
-  fine : Fine (sharedOf m) g i (rowAt m i) (accessed m (rowAt m i)) g₁ (hop m i .after)
+  -- what the step shows
+  pub step-fine : Fine (sharedOf m) g i (rowAt m i) (accessed m (rowAt m i)) g₁ (hop m i .after)
   unfolding hop
-  fine = place-step (sharedOf m) g (ok .inv) i (rowAt m i) (rowAt m i .place) (ok .knows i lt .place)
-
-  -- the row as the step leaves it
-  pub row-left : (a : After) → hop m i .after ≡ a → m₁ .rows ≡ set (m .rows) i (placed (rowAt m i) (placeAfter a))
-  unfolding hop
-  row-left a e = ap (λ (x : After). set (m .rows) i (placed (rowAt m i) (placeAfter x))) e
+  step-fine = place-step (sharedOf m) g (ok .inv) i (rowAt m i) (rowAt m i .place) (ok .knows i lt .place)
 
   length-kept : length (g₁ .pending) ≡ length (g .pending)
   length-kept = ap length pendings-kept
 
   inv₁ : Inv (sharedOf m₁) g₁
   unfolding hop
-  inv₁ = fine .inv
+  inv₁ = step-fine .inv
 
   pub grows₁ : Grows (sharedOf m) g (sharedOf m₁) g₁
   unfolding hop
-  grows₁ = fine .grows
+  grows₁ = step-fine .grows
 
   pub spares₁ : (u : ℕ) → u ≢ i → Spares (sharedOf m) g (sharedOf m₁) g₁ u
   unfolding hop
-  spares₁ = fine .spares
+  spares₁ = step-fine .spares
 
   pub knows₁ : (a : After) → hop m i .after ≡ a → KnowsAfter (sharedOf m₁) g₁ i (rowAt m i) a
   unfolding hop
-  knows₁ a e = subst (KnowsAfter (sharedOf m₁) g₁ i (rowAt m i)) e (fine .knows)
+  knows₁ a e = subst (KnowsAfter (sharedOf m₁) g₁ i (rowAt m i)) e (step-fine .knows)
 
   nodes-kept : m₁ .nodes ≡ m .nodes
   unfolding hop
@@ -85,14 +80,14 @@ module _ (m : Machine) (g : Ghost) (ok : Ok m g) (i : ℕ) (lt : i < 8) where
   threads-kept = refl
 
   -- a step that goes on, or ends a single call
-  stays-in-call : (p : Place) → hop m i .after ≡ afterwards.On p → Ok m₁ g₁
-  stays-in-call p e =
-      put-back m g ok i lt m₁ g₁ (placed (rowAt m i) p) (row-left (afterwards.On p) e) nodes-kept threads-kept length-kept inv₁ grows₁ spares₁
+  goes-on : (p : Place) → hop m i .after ≡ afterwards.On p → Ok m₁ g₁
+  goes-on p e =
+      put-back m g ok i lt m₁ g₁ (placed (rowAt m i) p) (rows-moved m i (afterwards.On p) e) nodes-kept threads-kept length-kept inv₁ grows₁ spares₁
       (record { tallied = still-tallied p; place = same-place (sharedOf m₁) g₁ i (rowAt m i) (placed (rowAt m i) p) refl refl refl p (knows₁ (afterwards.On p) e) })
 
   single-ends : (a : After) → hop m i .after ≡ a → placeAfter a ≡ Idle → Alone g₁ i → Ok m₁ g₁
   single-ends a e q alone =
-      put-back m g ok i lt m₁ g₁ (placed (rowAt m i) Idle) (row-left a e ∙ ap (λ (p : Place). set (m .rows) i (placed (rowAt m i) p)) q) nodes-kept threads-kept length-kept inv₁ grows₁ spares₁
+      put-back m g ok i lt m₁ g₁ (placed (rowAt m i) Idle) (rows-moved m i a e ∙ ap (λ (p : Place). set (m .rows) i (placed (rowAt m i) p)) q) nodes-kept threads-kept length-kept inv₁ grows₁ spares₁
       (record { tallied = still-tallied Idle; place = nothing-private (sharedOf m₁) g₁ i (placed (rowAt m i) Idle) (alone-tally g₁ i (placed (rowAt m i) Idle) (still-tallied Idle) alone) })
 
   -- the end of a batch: its results are paired, and its pending calls are cleared
@@ -102,11 +97,10 @@ module _ (m : Machine) (g : Ghost) (ok : Ok m g) (i : ℕ) (lt : i < 8) where
   room : i < length (g₁ .pending)
   room = omega (arith, length-kept, ok .pendings)
 
-  batch-ends : (a : After) (c : Cursor) → hop m i .after ≡ a → Ok (settled m₁ i 1 c .machine) g₂
+  batch-ends : (c : Cursor) → Ok (settled m₁ i 1 c .machine) g₂
   unfolding settled pairing
-  batch-ends a c e =
-      put-back m g ok i lt (settled m₁ i 1 c .machine) g₂ (cleared (rowAt m₁ i))
-      (ap (λ (l : List Row). set l i (cleared (rowAt m₁ i))) (row-left a e) ∙ set-set (m .rows) i (placed (rowAt m i) (placeAfter a)) (cleared (rowAt m₁ i)))
+  batch-ends c =
+      put-back m g ok i lt (settled m₁ i 1 c .machine) g₂ (cleared (rowAt m₁ i)) (rows-cleared m i 1 c)
       nodes-kept threads-kept (length-set (g₁ .pending) i [] ∙ length-kept)
       (deferred-inv (sharedOf m₁) g₁ i [] inv₁)
       (grows-then-grows grows₁ (deferred-grows (sharedOf m₁) g₁ i []))
@@ -124,9 +118,9 @@ module _ (m : Machine) (g : Ghost) (ok : Ok m g) (i : ℕ) (lt : i < 8) where
   step-keeps = by (hop m i .after) refl
     where
       by : (a : After) → hop m i .after ≡ a → Ok (tell m₁ i 1 a .machine) (endGhost g₁ i a)
-      by (afterwards.On p) e = stays-in-call p e
+      by (afterwards.On p) e = goes-on p e
       by afterwards.Ok e = single-ends afterwards.Ok e refl (knows₁ afterwards.Ok e)
       by afterwards.Empty e = single-ends afterwards.Empty e refl (knows₁ afterwards.Empty e)
       by (afterwards.Item x) e = single-ends (afterwards.Item x) e refl (knows₁ (afterwards.Item x) e .0)
-      by (afterwards.Pair x) e = batch-ends (afterwards.Pair x) _ e
-      by (afterwards.PairDequeues x n) e = batch-ends (afterwards.PairDequeues x n) _ e
+      by (afterwards.Pair x) e = batch-ends _
+      by (afterwards.PairDequeues x n) e = batch-ends _

@@ -58,11 +58,11 @@ module _ (s : Shared) (g : Ghost) (i : Inv s g) where
   pub owned-node-small : (u n : ℕ) → Mine g u n → n < 512
   owned-node-small u n h = omega (arith, owned-node-handed-out u n h, i .chain .room)
 
-  pub announcement-handed-out : (a : ℕ) (b : Batch) → At (g .batches) a b → a < s .announced
-  announcement-handed-out a b h = omega (arith, within (g .batches) a h, i .batches .counted)
+  pub batch-handed-out : (a : ℕ) (b : Batch) → At (g .batches) a b → a < s .announced
+  batch-handed-out a b h = omega (arith, within (g .batches) a h, i .batches .counted)
 
   pub announcement-small : (a : ℕ) (b : Batch) → At (g .batches) a b → a < 64
-  announcement-small a b h = omega (arith, announcement-handed-out a b h, i .batches .room)
+  announcement-small a b h = omega (arith, batch-handed-out a b h, i .batches .room)
 
   pub owned-announcement-handed-out : (u a : ℕ) → MineToo g u a → a < s .announced
   owned-announcement-handed-out u a h = omega (arith, within (g .announcementOwners) a (h .owner), i .batches .owned, i .batches .counted)

@@ -7,7 +7,6 @@ use mathlib.Core.Logic.{_≢_}
 use native.Mathlib.Omega.{arith}
 use native.Mathlib.Decide.{ℕ-discrete}
 use lib.ListN.{set}
-use lib.Seq.{set-set}
 use Rattle.chain.specs.Positions.{at}
 use Rattle.chain.proofs.Positions.{none-is-not-some}
 use Rattle.memory.specs.Memory.{Memory, perform}
@@ -15,8 +14,7 @@ use Rattle.place.specs.declared.Place.{Place}
 use Rattle.place.specs.declared.Place.the-variants.{Idle}
 use Rattle.place.specs.declared.After.{After}
 use Rattle.place.specs.declared.After.the-variants as afterwards
-use Rattle.place.specs.Place.{placeAfter}
-use Rattle.thread.specs.Calls.{access, after}
+use Rattle.thread.specs.Calls.{access}
 use Rattle.row.specs.declared.Row.{Row}
 use Rattle.row.specs.Row.{placed, cleared}
 use Rattle.machine.specs.declared.Machine.{Machine}
@@ -24,10 +22,12 @@ use Rattle.machine.specs.State.{rowAt, memoryOf, withMemory}
 use Rattle.machine.specs.Pairing.{pairing, settled}
 use Rattle.machine.specs.Steps.{accessed, hop, tell, stepOf, isMore}
 use Rattle.order.specs.Order.{Effect, Remembered, Story, of, stepOrder, lastReadAt, stepTaken, steppedOn}
+use Rattle.order.proofs.RowPut.{rows-moved, rows-cleared}
 use Rattle.order.proofs.Ghost.{Ghost, stepGhost, endGhost, stepOfGhost}
 use Rattle.order.proofs.Shared.{sharedOf}
 use Rattle.order.proofs.Fine.{Fine, KnowsAfter}
-use Rattle.order.proofs.Steps.{request, place-step, batches-kept}
+use Rattle.order.proofs.Steps.{request, batches-kept}
+use Rattle.order.proofs.MachineSteps.{step-fine}
 use Rattle.order.proofs.Reached.{Holds}
 use Rattle.order.proofs.Orderly.{Orderly, KnowsOf, Onward}
 use Rattle.order.proofs.OrderStays.{knows-of-stays}
@@ -86,8 +86,7 @@ module _ (m : Machine) (g : Ghost) (s : Story) (holds : Holds m g) (orderly : Or
   fine = step-order m g s i lt (holds .ok) orderly futured (knows i lt)
 
   chain-fine : Fine (sharedOf m) g i (rowAt m i) (accessed m (rowAt m i)) g₁ (hop m i .after)
-  unfolding hop
-  chain-fine = place-step (sharedOf m) g (holds .ok .inv) i (rowAt m i) (rowAt m i .place) (holds .ok .knows i lt .place)
+  chain-fine = step-fine m g (holds .ok) i lt
 
   -- the order does not see what the step's end does
   told-orderly : (a : After) → hop m i .after ≡ a → Orderly (tell m₁ i 1 a .machine) (endGhost g₁ i a) s₂
@@ -121,13 +120,12 @@ module _ (m : Machine) (g : Ghost) (s : Story) (holds : Holds m g) (orderly : Or
   remembers more = steppedOn (of s i) more (lastReadAt (s .clock) (of s i .lastRead) (rowAt m i .place))
 
   row-put : (a : After) → hop m i .after ≡ a → tell m₁ i 1 a .machine .rows ≡ set (m .rows) i (rowAfter a)
-  unfolding hop settled pairing
-  row-put (afterwards.On q) e = ap (λ (y : After). set (m .rows) i (placed (rowAt m i) (placeAfter y))) e
-  row-put afterwards.Ok e = ap (λ (y : After). set (m .rows) i (placed (rowAt m i) (placeAfter y))) e
-  row-put afterwards.Empty e = ap (λ (y : After). set (m .rows) i (placed (rowAt m i) (placeAfter y))) e
-  row-put (afterwards.Item n) e = ap (λ (y : After). set (m .rows) i (placed (rowAt m i) (placeAfter y))) e
-  row-put (afterwards.Pair from) e = set-set (m .rows) i (placed (rowAt m i) (placeAfter (hop m i .after))) (cleared (rowAt m₁ i))
-  row-put (afterwards.PairDequeues from taken) e = set-set (m .rows) i (placed (rowAt m i) (placeAfter (hop m i .after))) (cleared (rowAt m₁ i))
+  row-put (afterwards.On q) e = rows-moved m i (afterwards.On q) e
+  row-put afterwards.Ok e = rows-moved m i afterwards.Ok e
+  row-put afterwards.Empty e = rows-moved m i afterwards.Empty e
+  row-put (afterwards.Item n) e = rows-moved m i (afterwards.Item n) e
+  row-put (afterwards.Pair from) e = rows-cleared m i 1 _
+  row-put (afterwards.PairDequeues from taken) e = rows-cleared m i 1 _
 
   puts : (a : After) → hop m i .after ≡ a → Puts m s i (tell m₁ i 1 a .machine) s₂ (rowAfter a) (remembers (isMore (stepOf m i .answer)))
   puts a e = record { small = lt; rows = holds .ok .rows; threads = futured .threads; putRow = row-put a e; putThread = refl }

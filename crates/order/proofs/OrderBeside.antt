@@ -25,7 +25,7 @@ use Rattle.order.specs.Order.{Called, Given, Remembered, Story, of}
 use Rattle.order.proofs.Ghost.{Ghost}
 use Rattle.order.proofs.RunReads.{linked-or-not}
 use Rattle.order.proofs.AbstractHead.{LinkedOrNot, positionIf, positionOf, headPosition}
-use Rattle.order.proofs.Orderly.{Announced, RunOn, Orderly, BatchCall, WaitsDequeues, KnowsOfDequeues, KnowsOfResume, KnowsOf, Onward}
+use Rattle.order.proofs.Orderly.{RunOn, Orderly, BatchCall, WaitsDequeues, KnowsOfDequeues, KnowsOfResume, KnowsOf, Onward}
 
 abbrev pub machineWith : Machine → List Row → List Future → Machine
 machineWith m rows futures = record {

@@ -35,7 +35,7 @@ use Rattle.order.proofs.Invariant.{Inv, Shape}
 use Rattle.order.proofs.Reached.{Holds}
 use Rattle.order.proofs.Flags.{flagged-here}
 use Rattle.order.proofs.PairingCounts.{Flagged}
-use Rattle.order.proofs.PairingSteps.{row-left}
+use Rattle.order.proofs.RowPut.{row-moved}
 use Rattle.order.proofs.PairingResults.{valueOf, outcomes, batch-results, dequeues-results}
 use Rattle.order.proofs.Orderly.{itemsOf, map-part, found, BatchCall, Orderly}
 use Rattle.order.proofs.Futured.{Futured, SingleEnds, BatchEnds, EndsWith}
@@ -95,7 +95,7 @@ module _ (m : Machine) (g : Ghost) (s : Story) (i : ℕ) (lt : i < 8) (holds : H
         ≡ turns (length (of s i .called .calls)) (hop m i .machine .links) (m .items) (rowAt m i .last) (rowAt m i .pending) 0 (m .futures) (cursor (placed (rowAt m i) (placeAfter (hop m i .after))))
     unfolding hop
     turns-are cursor =
-        ap (λ (x : Row). turns (x .count % 33) (hop m i .machine .links) (m .items) (x .last) (x .pending) 0 (m .futures) (cursor x)) (row-left m g (holds .ok) i lt)
+        ap (λ (x : Row). turns (x .count % 33) (hop m i .machine .links) (m .items) (x .last) (x .pending) 0 (m .futures) (cursor x)) (row-moved m i (holds .ok .rows) lt)
         ∙ ap (λ (n : ℕ). turns n (hop m i .machine .links) (m .items) (rowAt m i .last) (rowAt m i .pending) 0 (m .futures) (cursor (placed (rowAt m i) (placeAfter (hop m i .after))))) count-is
 
   module _ (x : Memory) (links : hop m i .machine .links ≡ x .links) (inv : Inv (sharedOf (withMemory m x)) (stepGhost (memoryOf m) g (rowAt m i .place))) (s₁ : Story) (g′ : Ghost)

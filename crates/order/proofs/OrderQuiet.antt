@@ -106,11 +106,8 @@ module _ (m : Machine) (g : Ghost) (s : Story) (holds : Holds m g) (h : Orderly 
   )
 
 -- what is remembered of thread i when its call c starts
-abbrev pub remembers : Story → ℕ → Called → Remembered
-remembers s i c = nowIn (of s i) c
-
-pub remembered-is : (s : Story) (i : ℕ) (c : Called) → i < length (s .threads) → of (starts s i c) i ≡ remembers s i c
-remembered-is s i c lt = getD-set-same (s .threads) i (remembers s i c) nothingRemembered lt
+pub remembered-is : (s : Story) (i : ℕ) (c : Called) → i < length (s .threads) → of (starts s i c) i ≡ nowIn (of s i) c
+remembered-is s i c lt = getD-set-same (s .threads) i (nowIn (of s i) c) nothingRemembered lt
 
 -- a call that starts now has not taken effect, and is none of an announcement
 module _ (m : Machine) (g : Ghost) (s : Story) (h : Orderly m g s) (c : Called) (now : c .began ≡ s .clock) where

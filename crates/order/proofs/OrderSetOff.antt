@@ -24,7 +24,7 @@ use Rattle.machine.specs.declared.Machine.{Machine}
 use Rattle.machine.specs.State.{rowAt, withRow}
 use Rattle.machine.specs.HandOut.{handOutAnnouncement}
 use Rattle.order.specs.Events.{BatchSetOff, does}
-use Rattle.order.specs.Order.{Called, Remembered, Story, of, starts, pendingBatch, happens}
+use Rattle.order.specs.Order.{Called, Remembered, Story, of, starts, pendingBatch, happens, nowIn}
 use Rattle.order.proofs.Events.{RoomToSetOff}
 use Rattle.order.proofs.Ghost as ghost
 use Rattle.order.proofs.Ghost.{Ghost, Batch, pendingOf, announces, ghostDoes}
@@ -41,7 +41,7 @@ use Rattle.order.proofs.Placed.{rows-later}
 use Rattle.order.proofs.OrderKept.{run-stays}
 use Rattle.order.proofs.Futured.{Futured}
 use Rattle.order.proofs.FuturesEntries.{puts}
-use Rattle.order.proofs.OrderQuiet.{KnowsAll, OrderKnown, Quiet, was-linked, position, leaves, all-know, remembers, remembered-is, not-in-yet, waits, quietly}
+use Rattle.order.proofs.OrderQuiet.{KnowsAll, OrderKnown, Quiet, was-linked, position, leaves, all-know, remembered-is, not-in-yet, waits, quietly}
 use Rattle.order.proofs.PendingItems.{PendingItems}
 
 module _ (m : Machine) (g : Ghost) (s : Story) (holds : Holds m g) (h : Orderly m g s) (futured : Futured m g s) (items : PendingItems m g) (knows : KnowsAll m g s)
@@ -68,7 +68,7 @@ module _ (m : Machine) (g : Ghost) (s : Story) (holds : Holds m g) (h : Orderly 
     clock = suc (s .clock);
     order = s .order;
     given = s .given;
-    threads = set (s .threads) i (remembers s i batch);
+    threads = set (s .threads) i (nowIn (of s i) batch);
     started = s .started ++ (batch ∷ []);
     announced = cond b (s .announced) (s .announced ++ (batch ∷ []));
   }
@@ -76,7 +76,7 @@ module _ (m : Machine) (g : Ghost) (s : Story) (holds : Holds m g) (h : Orderly 
   room : i < length (s .threads)
   room = omega (arith, futured .threads, small)
 
-  remembered : of (starts s i batch) i ≡ remembers s i batch
+  remembered : of (starts s i batch) i ≡ nowIn (of s i) batch
   remembered = remembered-is s i batch room
 
   batch-call : (b : Bool) (p : Place) → BatchCall (storyIf b) i (calling (rowAt m i) p f)
@@ -97,7 +97,7 @@ module _ (m : Machine) (g : Ghost) (s : Story) (holds : Holds m g) (h : Orderly 
 
   dequeues-off : rowAt m i .tally .enqueues ≡ 0 → Ok (withRow m i dequeuesRow) g → OrderKnown (withRow m i dequeuesRow) g (storyIf true)
   dequeues-off e ok =
-      quietly m g s holds h futured knows i (finds .free) (withRow m i dequeuesRow) g (storyIf true) dequeuesRow (remembers s i batch) ok quiet
+      quietly m g s holds h futured knows i (finds .free) (withRow m i dequeuesRow) g (storyIf true) dequeuesRow (nowIn (of s i) batch) ok quiet
       (λ n lt. refl) refl refl refl refl refl refl refl refl refl (omega arith)
       (waits m g s h batch refl i room refl, batch-call true (place.Dequeues Q1), none-enqueued e)
 
@@ -211,7 +211,7 @@ module _ (m : Machine) (g : Ghost) (s : Story) (holds : Holds m g) (h : Orderly 
       announced-off : OrderKnown m′ g′ s′
       announced-off = (
         announced-orderly,
-        all-know m g s holds h m′ g′ s′ nothing-linked knows i row (remembers s i batch) (puts m g s holds futured i (finds .free) m′ s′ row (remembers s i batch) refl refl)
+        all-know m g s holds h m′ g′ s′ nothing-linked knows i row (nowIn (of s i) batch) (puts m g s holds futured i (finds .free) m′ s′ row (nowIn (of s i) batch) refl refl)
             (λ a c p. stays (s .announced) (batch ∷ []) a p) (λ a c p. ⊎-elim inl (λ w. inr (ap (λ (d : Called). d .thread) (w .1))) (called-at a c p))
             (own, batch-call false (place.Batch (nextAnnouncement (m .used)) B1)),
       )

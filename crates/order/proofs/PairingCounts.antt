@@ -25,10 +25,12 @@ use Rattle.machine.specs.State.{rowAt, memoryOf, noFuture}
 use Rattle.machine.specs.Pairing.{done}
 use Rattle.machine.specs.Steps.{hop}
 use Rattle.order.proofs.Ghost.{Ghost, pendingOf, stepGhost}
-use Rattle.order.specs.PairingReads.{AllStayOn, futureAt, withOutcome, turns, enqueuesAmong, batchCursor, dequeuesCursor, turnsFrom, turnsAfter}
+use Rattle.order.specs.PairingReads.{AllStayOn, futureAt, withOutcome, turns, batchCursor, dequeuesCursor, turnsFrom, turnsAfter}
 use Rattle.order.proofs.Knows.{Tallied}
 use Rattle.order.proofs.Steps.{Ok}
-use Rattle.order.proofs.PairingSteps.{row-left, pairing-stays-on}
+use Rattle.order.proofs.RowPut.{row-moved}
+use Rattle.order.proofs.PairingWalks.{enqueuesAmong}
+use Rattle.order.proofs.PairingSteps.{pairing-stays-on}
 
 abbrev pub isEnqueue : Call ℕ → Bool
 isEnqueue (enqueue v) = true
@@ -111,7 +113,7 @@ flagged-pairing-stays-on m g ok i lt flagged =
     (few-enough (hop m i .machine) g i (rowAt m i) (ap (λ (r : Row). r .count) row) (ap (λ (r : Row). r .pending) row) (ok .knows i lt .tallied) kept (hop m i .after))
   where
     row : rowAt (hop m i .machine) i ≡ placed (rowAt m i) (placeAfter (hop m i .after))
-    row = row-left m g ok i lt
+    row = row-moved m i (ok .rows) lt
 
     kept : Flagged (rowAt m i .pending) (hop m i .machine .futures) (pendingOf g i)
     kept = subst (λ (fs : List Future). Flagged (rowAt m i .pending) fs (pendingOf g i)) (sym (futures-kept m i)) flagged

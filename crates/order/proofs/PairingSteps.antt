@@ -1,32 +1,28 @@
 -- The step that ends a batch's call pairs its results without leaving the chain, provided that no more enqueues are paid than the row's tally has.
 use Prim.Native.Nat.{ℕ, _<_, _≤_}
-use mathlib.Core.Path.{_≡_, refl, sym, ap, _∙_, subst}
+use mathlib.Core.Path.{_≡_, refl, sym, ap, subst}
 use mathlib.Core.List.{List, []}
 use native.Mathlib.Omega.{arith}
-use lib.ListN.{length, getD}
-use lib.Seq.{getD-set-same}
 use Rattle.chain.specs.Positions.{at}
 use Rattle.chain.proofs.Positions.{none-is-not-some}
-use Rattle.tally.specs.Fifo.{Call}
-use Rattle.tally.specs.Tally.{tallyOf}
 use Rattle.tally.specs.declared.Tally.{Tally}
 use Rattle.cells.specs.declared.Cell.{Cell}
 use Rattle.place.specs.declared.After.{After}
 use Rattle.place.specs.declared.After.the-variants as afterwards
-use Rattle.place.specs.Place.{placeAfter}
 use Rattle.row.specs.declared.Row.{Row}
-use Rattle.row.specs.Row.{placed, noRow}
 use Rattle.machine.specs.declared.Machine.{Machine}
 use Rattle.machine.specs.State.{rowAt, memoryOf}
-use Rattle.machine.specs.Steps.{accessed, hop}
-use Rattle.order.proofs.Ghost.{Ghost, pendingOf, stepGhost}
-use Rattle.order.specs.PairingReads.{AllStayOn, enqueuesAmong, batchCursor, turnsFrom, turnsAfter}
+use Rattle.machine.specs.Steps.{hop}
+use Rattle.order.proofs.Ghost.{Ghost, stepGhost}
+use Rattle.order.specs.PairingReads.{AllStayOn, batchCursor, turnsFrom, turnsAfter}
 use Rattle.order.proofs.Shared.{sharedOf}
 use Rattle.order.proofs.Invariant.{Inv}
 use Rattle.order.proofs.Knows.{Tallied}
-use Rattle.order.proofs.Fine.{Fine, KnowsAfter}
-use Rattle.order.proofs.Steps.{Ok, place-step, pending-kept}
-use Rattle.order.proofs.PairingWalks.{run-batch-stays-on, taken-stay-on, own-tally}
+use Rattle.order.proofs.Fine.{KnowsAfter}
+use Rattle.order.proofs.RowPut.{row-moved}
+use Rattle.order.proofs.Steps.{Ok}
+use Rattle.order.proofs.MachineSteps.{step-fine, still-tallied}
+use Rattle.order.proofs.PairingWalks.{enqueuesAmong, run-batch-stays-on, taken-stay-on, own-tally}
 
 no-turns : (links : List Cell) (chain : List ℕ) → AllStayOn links chain []
 unfolding at
@@ -55,23 +51,11 @@ module _ (m : Machine) (g : Ghost) (ok : Ok m g) (i : ℕ) (lt : i < 8) where
   abbrev g₁ : Ghost
   g₁ = stepGhost (memoryOf m) g (rowAt m i .place)
 
-  fine : Fine (sharedOf m) g i (rowAt m i) (accessed m (rowAt m i)) g₁ (hop m i .after)
-  unfolding hop
-  fine = place-step (sharedOf m) g (ok .inv) i (rowAt m i) (rowAt m i .place) (ok .knows i lt .place)
-
-  still-tallied : Tallied g₁ i (rowAt m i)
-  still-tallied =
-      let h = ok .knows i lt .tallied in
-      let same : pendingOf g₁ i ≡ pendingOf g i = ap (λ (l : List (List (Call ℕ))). getD l i []) (pending-kept (memoryOf m) g (rowAt m i .place)) in
-      record { tally = h .tally ∙ sym (ap tallyOf same); count = h .count ∙ sym (ap length same); few = omega (arith, h .few, ap length same) }
-
-  pub row-left : rowAt (hop m i .machine) i ≡ placed (rowAt m i) (placeAfter (hop m i .after))
-  unfolding hop
-  row-left = getD-set-same (m .rows) i _ noRow (omega (arith, ok .rows))
-
   -- the turns of the step's end, if it pairs
   pub pairing-stays-on : enqueuesAmong (turnsAfter (hop m i .machine) i (hop m i .after)) ≤ rowAt m i .tally .enqueues
       → AllStayOn (hop m i .machine .links) (g₁ .chain) (turnsAfter (hop m i .machine) i (hop m i .after))
   unfolding hop
   pairing-stays-on few =
-      known-end-stays-on (hop m i .machine) g₁ (fine .inv) i (rowAt m i) (ap (λ (r : Row). r .first) row-left) still-tallied (hop m i .after) (fine .knows) few
+      let fine = step-fine m g ok i lt in
+      known-end-stays-on (hop m i .machine) g₁ (fine .inv) i (rowAt m i) (ap (λ (r : Row). r .first) (row-moved m i (ok .rows) lt))
+      (still-tallied m g ok i lt (rowAt m i .place)) (hop m i .after) (fine .knows) few

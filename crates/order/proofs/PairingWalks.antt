@@ -5,7 +5,7 @@
 use Prim.Native.Nat.{ℕ, zero, suc, _+_, _-_, _<_, _≤_}
 use mathlib.Core.Path.{_≡_, refl, sym, ap, _∙_, subst}
 use mathlib.Core.Bool.{Bool, true, false, cond, _||_, true≢false}
-use mathlib.Core.List.{List}
+use mathlib.Core.List.{List, [], _∷_}
 use mathlib.Core.Option.{some}
 use mathlib.Core.Logic.{_≢_}
 use native.Mathlib.Omega.{arith}
@@ -31,17 +31,27 @@ use Rattle.pairing.specs.declared.Paid.{Paid}
 use Rattle.pairing.specs.declared.Around.{Around}
 use Rattle.pairing.specs.Pairing.{nodeBehind, sameLink, pay, payBatch, payDequeues, paid}
 use Rattle.machine.specs.Pairing.{around, pairFrom}
-use Rattle.order.specs.PairingReads.{Turn, turns, resultsOf, enqueuesAmong, batchCursor, dequeuesCursor, LeadsTo, StaysOn, AllStayOn}
+use Rattle.order.specs.PairingReads.{Turn, withOutcome, turns, batchCursor, dequeuesCursor, LeadsTo, StaysOn, AllStayOn}
 use Rattle.order.proofs.Ghost.{Ghost}
 use Rattle.order.proofs.Shared.{Shared, led, next, link-to}
 use Rattle.order.proofs.Invariant.{Inv}
 use Rattle.order.proofs.Knows.{requestOf, Tallied, Own}
 use Rattle.order.proofs.Fine.{RunToItsEnd, Taken}
 
+-- the futures with the turns' results, in calling order
+unfoldable pub withResults : List ℕ → ℕ → List Future → List Turn → List Future
+withResults pending k fs [] = fs
+withResults pending k fs (x ∷ xs) = withResults pending (k + 1) (withOutcome pending k fs (x .outcome)) xs
+
+-- how many of the turns pay an enqueue
+unfoldable pub enqueuesAmong : List Turn → ℕ
+enqueuesAmong [] = 0
+enqueuesAmong (x ∷ xs) = cond (x .enqueue) (suc (enqueuesAmong xs)) (enqueuesAmong xs)
+
 -- the turns are those of pairFrom: their results are what it writes
 pub turns-are-pairings : (n : ℕ) (links : List Cell) (items : List Item) (last : ℕ) (pending : List ℕ) (k : ℕ) (fs : List Future) (c : Cursor)
-    → pairFrom n links items last pending k fs c ≡ resultsOf pending k fs (turns n links items last pending k fs c)
-unfolding pairFrom turns resultsOf
+    → pairFrom n links items last pending k fs c ≡ withResults pending k fs (turns n links items last pending k fs c)
+unfolding pairFrom turns withResults
 turns-are-pairings zero links items last pending k fs c = refl
 turns-are-pairings (suc n) links items last pending k fs c = turns-are-pairings n links items last pending (k + 1) _ _
 

@@ -18,8 +18,8 @@ use Rattle.answer.specs.declared.Future.{Future}
 use Rattle.pairing.specs.declared.Cursor.{Cursor}
 use Rattle.machine.specs.State.{noFuture}
 use Rattle.machine.specs.Pairing.{pairFrom}
-use Rattle.order.specs.PairingReads.{Turn, turns, resultsOf}
-use Rattle.order.proofs.PairingWalks.{turns-are-pairings}
+use Rattle.order.specs.PairingReads.{Turn, turns}
+use Rattle.order.proofs.PairingWalks.{withResults, turns-are-pairings}
 use Rattle.order.proofs.PairingCounts.{handedOutFor, done-keeps}
 use Rattle.order.proofs.PairingResults.{outcomes}
 
@@ -29,8 +29,8 @@ numberAt pending k = getD pending (k % 32) 0 % 512
 
 module _ (pending : List ℕ) where
   others-are-left : (xs : List Turn) (k : ℕ) (fs : List Future) (f : ℕ) → ((i : ℕ) → k ≤ i → i < k + length xs → numberAt pending i ≢ f)
-      → getD (resultsOf pending k fs xs) f noFuture ≡ getD fs f noFuture
-  unfolding resultsOf
+      → getD (withResults pending k fs xs) f noFuture ≡ getD fs f noFuture
+  unfolding withResults
   others-are-left [] k fs f other = refl
   others-are-left (x ∷ xs) k fs f other =
       others-are-left xs (k + 1) _ f (λ i a b. other i (omega arith) (omega arith))
@@ -41,12 +41,12 @@ module _ (pending : List ℕ) where
   Apart k n = (i j : ℕ) → k ≤ i → i < k + n → k ≤ j → j < k + n → numberAt pending i ≡ numberAt pending j → i ≡ j
 
   each-has-its-own : (xs : List Turn) (k : ℕ) (fs : List Future) → length fs ≡ 512 → Apart k (length xs)
-      → (i j : ℕ) (o : Outcome) → i ≡ k + j → At (outcomes xs) j o → getD (resultsOf pending k fs xs) (numberAt pending i) noFuture .outcome ≡ o
-  unfolding resultsOf at
+      → (i j : ℕ) (o : Outcome) → i ≡ k + j → At (outcomes xs) j o → getD (withResults pending k fs xs) (numberAt pending i) noFuture .outcome ≡ o
+  unfolding withResults at
   each-has-its-own [] k fs long apart i j o is h = absurd (none-is-not-some refl h)
   each-has-its-own (x ∷ xs) k fs long apart i zero o is h =
       ap (λ (f : Future). f .outcome)
-      (ap (λ (a : ℕ). getD (resultsOf pending k fs (x ∷ xs)) (numberAt pending a) noFuture) (let z : i ≡ k = omega arith in z)
+      (ap (λ (a : ℕ). getD (withResults pending k fs (x ∷ xs)) (numberAt pending a) noFuture) (let z : i ≡ k = omega arith in z)
       ∙ others-are-left xs (k + 1) _ (numberAt pending k) (λ a p q e. omega (arith, apart a k (omega arith) (omega arith) (omega arith) (omega arith) e))
       ∙ getD-set-same fs (numberAt pending k) _ noFuture (omega arith))
       ∙ some-injective h

@@ -7,12 +7,13 @@ use mathlib.Core.Logic.{⊎-elim, _≢_}
 use native.Mathlib.Omega.{arith}
 use native.Mathlib.Decide.{ℕ-discrete}
 use lib.ListN.{length, getD, set, length-set, length-replicate, getD-replicate}
-use lib.Seq.{getD-set-same, getD-set-other, set-set}
+use lib.Seq.{getD-set-same, getD-set-other}
 use Rattle.chain.specs.Positions.{At}
 use Rattle.chain.specs.Chain.{following}
 use Rattle.chain.proofs.Positions.{map-same}
 use Rattle.tally.specs.Fifo.{Call, enqueue, dequeue}
 use Rattle.tally.specs.Excess.{enqueued}
+use Rattle.tally.proofs.Counts.{enqueued-append}
 use Rattle.cells.specs.declared.Cell.{Cell}
 use Rattle.memory.specs.Memory.{perform}
 use Rattle.place.specs.declared.Place.{Place}
@@ -39,7 +40,7 @@ use Rattle.machine.specs.Steps.{hop, tell, stepOf, requestOf}
 use Rattle.machine.specs.Entries.{linkedBehind, deferEnqueue, deferDequeue}
 use Rattle.order.specs.Links.{nodesFrom}
 use Rattle.order.specs.Events.{Event, EnqueueStarts, DequeueStarts, EnqueueDeferred, DequeueDeferred, BatchSetOff, FutureAsked, StepTaken, does}
-use Rattle.order.proofs.RowPut.{put-here, put-elsewhere}
+use Rattle.order.proofs.RowPut.{put-here, put-elsewhere, rows-moved, rows-cleared}
 use Rattle.order.proofs.Events.{Finds}
 use Rattle.order.proofs.Ghost.{Ghost, pendingOf, pendingNodes, owns, stepGhost, defers, endGhost, stepOfGhost, ghostDoes, freshGhost}
 use Rattle.order.proofs.Shared.{Shared, sharedOf, next}
@@ -48,7 +49,7 @@ use Rattle.order.proofs.HandingOutNodes.{new-node-spares}
 use Rattle.order.proofs.HandedOut.{node-number, node-handed-out}
 use Rattle.order.proofs.NothingLinked.{owned-node-handed-out}
 use Rattle.order.proofs.Steps.{Ok, pending-kept, alone-tally}
-use Rattle.order.proofs.MachineSteps.{row-left, spares₁, knows₁}
+use Rattle.order.proofs.MachineSteps.{spares₁, knows₁}
 use Rattle.order.proofs.Deferred.{meets-the-pending, nodes-are-pending, pending-here, defer-enqueue-spares, nodes-then}
 use Rattle.order.proofs.SettingOff.{set-off-either}
 use Rattle.order.proofs.Reached.{Holds}
@@ -63,13 +64,6 @@ pub record PendingItems (m : Machine) (g : Ghost) : Type 0 where
   -- every node that can be handed out has a place for its item
   pub room : length (m .items) ≡ 512
   pub each : (t : ℕ) → t < 8 → rowAt m t .place ≡ Idle → HoldItems m (pendingOf g t) (rowAt m t)
-
--- the items of a call more
-enqueued-one-more : (cs : List (Call ℕ)) (c : Call ℕ) → enqueued (cs ++ (c ∷ [])) ≡ enqueued cs ++ enqueued (c ∷ [])
-unfolding enqueued
-enqueued-one-more [] c = refl
-enqueued-one-more (enqueue v ∷ cs) c = ap (λ (l : List ℕ). v ∷ l) (enqueued-one-more cs c)
-enqueued-one-more (dequeue ∷ cs) c = enqueued-one-more cs c
 
 -- nothing is pending
 nothing-held : (m : Machine) (cs : List (Call ℕ)) (r : Row) → cs ≡ [] → r .tally .enqueues ≡ 0 → HoldItems m cs r
@@ -163,7 +157,7 @@ module _ (m : Machine) (g : Ghost) (ok : Ok m g) (h : PendingItems m g) (i : ℕ
     calls-then c = getD-set-same (g .pending) i _ [] (omega (arith, ok .pendings))
 
     items-then : (c : Call ℕ) → enqueued (getD (set (g .pending) i (pendingOf g i ++ (c ∷ []))) i []) ≡ enqueued (pendingOf g i) ++ enqueued (c ∷ [])
-    items-then c = ap enqueued (calls-then c) ∙ enqueued-one-more (pendingOf g i) c
+    items-then c = ap enqueued (calls-then c) ∙ enqueued-append (pendingOf g i) (c ∷ [])
 
     dequeue-pending : PendingItems (does m (DequeueDeferred i)) (ghostDoes m g (DequeueDeferred i))
     unfolding deferDequeue enqueued
@@ -229,7 +223,7 @@ module _ (m : Machine) (g : Ghost) (ok : Ok m g) (h : PendingItems m g) (i : ℕ
 
   hopped : (a : After) → hop m i .after ≡ a → (placeAfter a ≡ Idle → HoldItems m₁ (pendingOf g₁ i) (rowAt m i)) → PendingItems m₁ g₁
   hopped a e mine =
-      put-items m₁ g₁ (placed (rowAt m i) (placeAfter a)) (row-left m g ok i lt a e) (ap length items₁) keeps₁ (λ u ne. pending₁ u) (λ u ne. spares₁ m g ok i lt u ne .link) mine
+      put-items m₁ g₁ (placed (rowAt m i) (placeAfter a)) (rows-moved m i a e) (ap length items₁) keeps₁ (λ u ne. pending₁ u) (λ u ne. spares₁ m g ok i lt u ne .link) mine
 
   goes-on : (p : Place) → hop m i .after ≡ afterwards.On p → PendingItems m₁ g₁
   goes-on p e = hopped (afterwards.On p) e (λ q. ⊎-elim {C = HoldItems m₁ (pendingOf g₁ i) (rowAt m i)} was-idle (λ busy. absurd (stays-in-call m i p e busy q)) (idle-or-busy (rowAt m i .place)))
@@ -242,11 +236,10 @@ module _ (m : Machine) (g : Ghost) (ok : Ok m g) (h : PendingItems m g) (i : ℕ
   single-ends : (a : After) → hop m i .after ≡ a → Alone g₁ i → PendingItems m₁ g₁
   single-ends a e alone = hopped a e (λ q. nothing-held m₁ (pendingOf g₁ i) (rowAt m i) alone (alone-tally g i (rowAt m i) (ok .knows i lt .tallied) (sym (pending₁ i) ∙ alone)))
 
-  batch-ends : (a : After) (c : Cursor) → hop m i .after ≡ a → PendingItems (settled m₁ i 1 c .machine) (defers g₁ i [])
+  batch-ends : (c : Cursor) → PendingItems (settled m₁ i 1 c .machine) (defers g₁ i [])
   unfolding settled pairing
-  batch-ends a c e =
-      put-items _ _ (cleared (rowAt m₁ i))
-      (ap (λ (l : List Row). set l i (cleared (rowAt m₁ i))) (row-left m g ok i lt a e) ∙ set-set (m .rows) i (placed (rowAt m i) (placeAfter a)) (cleared (rowAt m₁ i)))
+  batch-ends c =
+      put-items _ _ (cleared (rowAt m₁ i)) (rows-cleared m i 1 c)
       (ap length items₁) keeps₁ (λ u ne. getD-set-other (g₁ .pending) i u [] [] ne ∙ pending₁ u) (λ u ne. spares₁ m g ok i lt u ne .link)
       (λ q. nothing-held (settled m₁ i 1 c .machine) _ (cleared (rowAt m₁ i)) (getD-set-same (g₁ .pending) i [] [] room) refl)
     where
@@ -261,8 +254,8 @@ module _ (m : Machine) (g : Ghost) (ok : Ok m g) (h : PendingItems m g) (i : ℕ
       by afterwards.Ok e = single-ends afterwards.Ok e (knows₁ m g ok i lt afterwards.Ok e)
       by afterwards.Empty e = single-ends afterwards.Empty e (knows₁ m g ok i lt afterwards.Empty e)
       by (afterwards.Item x) e = single-ends (afterwards.Item x) e (knows₁ m g ok i lt (afterwards.Item x) e .0)
-      by (afterwards.Pair x) e = batch-ends (afterwards.Pair x) _ e
-      by (afterwards.PairDequeues x n) e = batch-ends (afterwards.PairDequeues x n) _ e
+      by (afterwards.Pair x) e = batch-ends _
+      by (afterwards.PairDequeues x n) e = batch-ends _
 
 pub event-pending-items : (m : Machine) (g : Ghost) → Holds m g → PendingItems m g → (x : Event) → Finds m x → PendingItems (does m x) (ghostDoes m g x)
 event-pending-items m g holds h (EnqueueStarts i v) finds = enqueue-begun m g (holds .ok) h i (finds .0 .small) v (finds .2)

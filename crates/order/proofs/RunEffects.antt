@@ -43,7 +43,7 @@ use Rattle.order.specs.Links.{led, next, ifNone}
 use Rattle.order.specs.Promises.{requestIn}
 use Rattle.order.specs.Order.{Called, Effect, Story, noCalled, of, runOrder}
 use Rattle.order.specs.PlainQueue.{ran, leaves}
-use Rattle.order.proofs.Ghost.{Ghost, Batch, batchOf, joins, installs, batchGhost, runGhost}
+use Rattle.order.proofs.Ghost.{Ghost, batchOf, joins, installs, batchGhost, runGhost}
 use Rattle.order.proofs.Shared.{sharedOf, inMemory}
 use Rattle.order.proofs.Invariant.{Inv, Linked, NotLinked}
 use Rattle.order.proofs.Ends.{position-small, goes-up}

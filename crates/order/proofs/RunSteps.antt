@@ -31,7 +31,7 @@ use Rattle.place.specs.declared.RunStep.the-variants.{A1, A2, A3, A4, A5, A6, A
 use Rattle.running.specs.Running.{runAccess, runAfter, afterA2, afterA3, afterA6, walkTo, back, runningAt}
 use Rattle.row.specs.declared.Row.{Row}
 use Rattle.order.specs.Links.{ifNone}
-use Rattle.order.proofs.Ghost.{Ghost, Batch, joins, batchOf, noBatch, runGhost}
+use Rattle.order.proofs.Ghost.{Ghost, joins, batchOf, noBatch, runGhost}
 use Rattle.order.proofs.Shared.{Shared, next, led, linked, withLinks, withHead, tailIf}
 use Rattle.order.proofs.Invariant.{Linked, NotLinked, FrontAt, Asks, Inv}
 use Rattle.order.proofs.Knows.{Past, requestOf, KnowsResume, KnowsRun}

@@ -34,7 +34,7 @@ use Rattle.order.specs.Events.{Event, EnqueueStarts, DequeueStarts, Enqu
 use Rattle.order.specs.Order.{Called, Effect, Remembered, Story, of, nothingRemembered, stepOrder, starts, defers, pendingBatch, single, stepTaken, happens, freshStory}
 use Rattle.order.proofs.Events.{Free, Finds}
 use Rattle.order.proofs.Ghost.{Ghost}
-use Rattle.order.proofs.PairingSteps.{row-left}
+use Rattle.order.proofs.RowPut.{row-moved}
 use Rattle.order.proofs.SettingOff.{set-off-either}
 use Rattle.order.proofs.Reached.{Holds}
 use Rattle.order.proofs.Futured.{Futured, OrderAfter}
@@ -88,7 +88,7 @@ module _ (m : Machine) (g : Ghost) (holds : Holds m g) (i : ℕ) (lt : i < 8) wh
   stays-idle : rowAt m i .place ≡ Idle → rowAt (stepOf m i .machine) i .place ≡ Idle
   stays-idle e =
       ap (λ (a : After). rowAt (tell (hop m i .machine) i 1 a .machine) i .place) (goes-nowhere e)
-      ∙ ap (λ (r : Row). r .place) (row-left m g (holds .ok) i lt)
+      ∙ ap (λ (r : Row). r .place) (row-moved m i (holds .ok .rows) lt)
       ∙ ap placeAfter (goes-nowhere e)
 
 module _ (m : Machine) (g : Ghost) (s : Story) (holds : Holds m g) (futured : Futured m g s) (h : Begun m s) (i : ℕ) where

@@ -2,7 +2,7 @@
 -- call. Here are the turns that pairFrom of machine/specs/Pairing.antt makes, and what it means that a turn stays on the chain of linked nodes.
 use Prim.Native.Nat.{ℕ, zero, suc, _+_, _%_}
 use mathlib.Core.Path.{_≡_}
-use mathlib.Core.Bool.{Bool, true, false, cond}
+use mathlib.Core.Bool.{Bool, true, false}
 use mathlib.Core.List.{List, [], _∷_}
 use lib.ListN.{getD, set}
 use Rattle.chain.specs.Positions.{At, In}
@@ -48,15 +48,6 @@ turns (suc n) links items last pending k fs c =
     ∷ turns n links items last pending (k + 1)
     (withOutcome pending k fs (paidTo links items last c (futureAt pending k fs) .outcome))
     (paidTo links items last c (futureAt pending k fs) .cursor)
-
--- the futures with the turns' results, in calling order
-unfoldable pub resultsOf : List ℕ → ℕ → List Future → List Turn → List Future
-resultsOf pending k fs [] = fs
-resultsOf pending k fs (x ∷ xs) = resultsOf pending (k + 1) (withOutcome pending k fs (x .outcome)) xs
-
-unfoldable pub enqueuesAmong : List Turn → ℕ
-enqueuesAmong [] = 0
-enqueuesAmong (x ∷ xs) = cond (x .enqueue) (suc (enqueuesAmong xs)) (enqueuesAmong xs)
 
 -- where the two pairings begin: as `tell` of machine/specs/Steps.antt has them
 abbrev pub batchCursor : ℕ → ℕ → Cursor

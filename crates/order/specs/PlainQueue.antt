@@ -1,6 +1,6 @@
--- What is promised of the order of effect after any list of entries from a fresh machine: "The calls that took effect, in 01's order, run singly on a
--- plain FIFO list, give the present contents and every result given so far, each between its start and its result, a batch's calls together."
--- Order.antt has the order. A batch's calls are one row of it, so they stand together, in calling order.
+-- Demand 3, second half: what is promised of the order of effect after any list of entries from a fresh machine: "The calls that took effect, in 01's
+-- order, run singly on a plain FIFO list, give the present contents and every result given so far, each between its start and its result, a batch's
+-- calls together." Order.antt has the order. A batch's calls are one row of it, so they stand together, in calling order.
 use Prim.Native.Nat.{ℕ, _%_, _<_, _≤_}
 use mathlib.Core.Path.{_≡_}
 use mathlib.Core.List.{List, [], _∷_, _++_, map}
@@ -8,7 +8,6 @@ use mathlib.Core.Option.{Option, none, some}
 use lib.ListN.{getD}
 use Rattle.chain.specs.Positions.{At, In}
 use Rattle.tally.specs.Fifo.{Result, left, results}
-use Rattle.place.specs.declared.Place.the-variants.{Enqueue, Dequeue}
 use Rattle.answer.specs.declared.Outcome.the-variants.{Waiting}
 use Rattle.call.specs.declared.entry.Entry.{Entry}
 use Rattle.call.specs.declared.entry.Entry.the-variants as entry

@@ -1,4 +1,4 @@
--- What is promised of the queue after any list of entries from a fresh machine (a refused entry changes nothing):
+-- Demand 3, first half: what is promised of the queue after any list of entries from a fresh machine (a refused entry changes nothing):
 -- "the linked nodes form one chain from the first dummy, no loop, each node once; the tail is at the last node or one link step behind;
 -- no walk runs off the end." proofs/Promises.antt has the theorem, the-queue-is-a-queue.
 use Prim.Native.Nat.{ℕ, suc, _<_, _≤_}

@@ -1,5 +1,5 @@
-// A thread's place in its call (01, "Steps"): idle, or the step that comes next in one of the five kinds of
-// call, with what the call remembers of the accesses before.
+// A thread's place in its call (01, "Steps"): idle, or the step that comes next in one of the four kinds of
+// call or in running an announcement, with what is remembered of the accesses before.
 ghost use mathlib.Core.Path.{_≡_};
 ghost use Prim.Native.Nat.{_<_};
 ghost use Rattle.place.specs.Place.{idle, announcementRun, placeAfter, goesOn};

@@ -1,12 +1,9 @@
 -- How many bytes numbers take that are written one behind the other.
-use Prim.Native.Nat.{ℕ, zero, suc, _+_, _/_, _≤_}
+use Prim.Native.Nat.{ℕ, _+_}
 use mathlib.Core.Path.{_≡_}
-use mathlib.Core.Bool.{Bool, true, false, cond}
-use mathlib.Core.List.{List}
 use native.Mathlib.Omega.{arith}
-use lib.Dec.{ltb}
 use lib.ListN.{length, length-append}
-use Rattle.numbers.specs.Write.{groups, groupsOf}
+use Rattle.numbers.specs.Write.{groupsOf}
 use Rattle.schedule.specs.Write.{pairBytes, tripleBytes}
 
 pub pair-length : (a b : ℕ) → length (pairBytes a b) ≡ length (groupsOf a) + length (groupsOf b)

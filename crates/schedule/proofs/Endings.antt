@@ -3,18 +3,17 @@
 use Prim.Native.Nat.{ℕ, zero, suc, _+_, _<_, _≤_}
 use mathlib.Core.Path.{_≡_, refl, sym, ap, _∙_, subst}
 use mathlib.Core.Bool.{Bool, true, false, cond, _||_}
-use mathlib.Core.List.{List, [], _∷_, _++_, append-assoc}
+use mathlib.Core.List.{List, _++_, append-assoc}
 use mathlib.Core.Logic.{⊎-elim}
 use native.Mathlib.Omega.{arith}
-use lib.Dec.{ltb, eqb}
+use lib.Dec.{ltb}
 use lib.ListN.{length, drop}
 use Rattle.refusal.specs.declared.Refusal.{Refusal}
-use Rattle.refusal.specs.declared.Refusal.the-variants.{SetupOutOfRange, CutShort, TooLong}
+use Rattle.refusal.specs.declared.Refusal.the-variants.{SetupOutOfRange}
 use Rattle.refusal.specs.Numbers.{numberOf}
-use Rattle.numbers.specs.declared.Reading.{Reading}
-use Rattle.numbers.specs.declared.Reading.the-variants.{Number, Refused}
+use Rattle.numbers.specs.declared.Reading.the-variants.{Refused}
 use Rattle.numbers.proofs.Within.{refused-by-10-or-11}
-use Rattle.numbers.specs.Read.{lastGroup, before, following, number, numberAt, Bytes}
+use Rattle.numbers.specs.Read.{numberAt, Bytes}
 use Rattle.call.specs.declared.entry.Entry.{Entry}
 use Rattle.answer.specs.declared.Verdict.the-variants as verdict
 use Rattle.schedule.specs.declared.read.SetUpReading.the-variants as setup

@@ -4,7 +4,7 @@ use Prim.Native.Nat.{ℕ, zero, suc, _+_, _-_, _^_, _<_, _≤_}
 use mathlib.Core.Path.{_≡_, refl, sym, ap, ap₂, _∙_}
 use mathlib.Core.List.{List, [], _∷_, _++_, append-assoc}
 use native.Mathlib.Omega.{arith}
-use native.Mathlib.Decide.{ℕ-discrete, decLe}
+use native.Mathlib.Decide.{ℕ-discrete}
 use lib.ListN.{length, drop, length-append, length-drop}
 use lib.Seq.{drop-append-seam, drop-drop}
 use borrow.Author.Tests.{lt-leb, le-leb, ne-eqb}

@@ -2,7 +2,6 @@
 -- The reader's definitions are taken apart here once, so that the laws of reading go by cases on the way and see no test of the reader's.
 use Prim.Native.Nat.{ℕ, _-_, _≤_}
 use mathlib.Core.Path.{_≡_, refl}
-use mathlib.Core.Bool.{Bool, true, false, cond}
 use mathlib.Core.List.{List}
 use lib.ListN.{length}
 use lib.Dec.{eqb}

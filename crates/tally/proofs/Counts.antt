@@ -74,6 +74,13 @@ module _ {A : Type 0} where
   left-is (dequeue ∷ cs) [] = left-is cs []
   left-is (dequeue ∷ cs) (x ∷ q) = left-is cs q
 
+  -- the items of further calls stand behind
+  pub enqueued-append : (cs ds : List (Call A)) → enqueued (cs ++ ds) ≡ enqueued cs ++ enqueued ds
+  unfolding enqueued
+  enqueued-append [] ds = refl
+  enqueued-append (enqueue v ∷ cs) ds = ap (λ (l : List A). v ∷ l) (enqueued-append cs ds)
+  enqueued-append (dequeue ∷ cs) ds = enqueued-append cs ds
+
   -- there are no more of each kind than calls, and no more excess than dequeues
   pub enqueues-are-calls : (cs : List (Call A)) → enqueues cs ≤ length cs
   unfolding enqueued

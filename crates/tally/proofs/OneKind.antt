@@ -2,7 +2,7 @@
 -- difference to their results.
 use Prim.Native.Nat.{ℕ, suc, _+_, _≤_}
 use mathlib.Core.Path.{_≡_, refl, sym, ap, _∙_}
-use mathlib.Core.List.{List, [], _∷_, _++_}
+use mathlib.Core.List.{List, [], _∷_, _++_, nil≢cons}
 use mathlib.Core.Logic.{_⊎_, ⊎-elim}
 use native.Mathlib.Omega.{arith}
 use lib.ListN.{length, take}
@@ -26,13 +26,10 @@ module _ {A : Type 0} where
   pub successful-enqueues : (cs : List (Call A)) (q : List A) → dequeues cs ≡ 0 → successful (results cs q) ≡ 0
   successful-enqueues cs q e = omega (arith, failing-and-successful cs q)
 
-  not-none : {x : A} {l : List A} → x ∷ l ≡ [] → ⊥
-  not-none e = let z : _≡_ {A = ℕ} 0 1 = cc in omega arith
-
   pub dequeues-alone : (cs : List (Call A)) → enqueued cs ≡ [] → (dequeues cs ≡ length cs) × (excess cs ≡ length cs)
   unfolding enqueued dequeues
   dequeues-alone [] e = (refl, excess-nil A)
-  dequeues-alone (enqueue v ∷ cs) e = absurd (not-none e)
+  dequeues-alone (enqueue v ∷ cs) e = absurd (nil≢cons (sym e))
   dequeues-alone (dequeue ∷ cs) e = let h = dequeues-alone cs e in (ap suc (h .0), excess-dequeue cs ∙ ap suc (h .1))
 
   -- k of the dequeues succeed: all of them, or as many as there are items
@@ -45,7 +42,7 @@ module _ {A : Type 0} where
   results-of-the-first : (cs : List (Call A)) (q : List A) → enqueued cs ≡ [] → results cs (take (length cs) q) ≡ results cs q
   unfolding results result after enqueued
   results-of-the-first [] q e = refl
-  results-of-the-first (enqueue v ∷ cs) q e = absurd (not-none e)
+  results-of-the-first (enqueue v ∷ cs) q e = absurd (nil≢cons (sym e))
   results-of-the-first (dequeue ∷ cs) [] e = refl
   results-of-the-first (dequeue ∷ cs) (x ∷ q) e = ap (λ (r : List (Result A)). item x ∷ r) (results-of-the-first cs q e)
 

@@ -1,18 +1,14 @@
 -- The largest value that a function has over all prefixes of a list: how it goes from a list to the list with one element more in front,
 -- and how it moves when the function is lowered by a number or raised by one.
 use Prim.Native.Nat.{ℕ, suc, _-_, _≤_, max}
-use mathlib.Core.Path.{_≡_, refl, ap, fun-ext}
-use mathlib.Core.List.{List, [], _∷_, map}
+use mathlib.Core.Path.{_≡_, ap, fun-ext}
+use mathlib.Core.List.{List, [], _∷_, map, map-map}
 use native.Mathlib.Omega.{arith}
 use Rattle.tally.specs.Excess.{prefixes, largest}
 
 module _ {B : Type 0} where
   abbrev pub best : (List B → ℕ) → List B → ℕ
   best f xs = largest (map f (prefixes xs))
-
-  map-map : {C D : Type 0} (f : C → D) (g : B → C) (xs : List B) → map f (map g xs) ≡ map (λ x. f (g x)) xs
-  map-map f g [] = refl
-  map-map f g (x ∷ xs) = ap (λ ys. f (g x) ∷ ys) (map-map f g xs)
 
   pub best-nil : (f : List B → ℕ) → best f [] ≡ f []
   unfolding prefixes largest

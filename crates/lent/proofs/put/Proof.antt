@@ -2,7 +2,6 @@
 use Prim.Native.Nat.{ℕ}
 use mathlib.Core.Path.{sym, ap, _∙_}
 use mathlib.Core.List.{List, _++_}
-use native.Mathlib.Omega.{arith}
 use lib.ListN.{drop, length}
 use lib.Seq.{take-length}
 use Rattle.lent.specs.declared.Writing.the-variants.{Wrote}

@@ -1,6 +1,4 @@
 -- `listing::put::field` meets its contract: a blank, and the number behind it.
-use Prim.Native.Nat.{ℕ}
-use mathlib.Core.List.{List, [], _∷_}
 use native.Mathlib.Omega.{arith}
 use Rattle.lent.proofs.Pieces.{put, then, contract}
 use borrow.Author.Needs.{needs}

@@ -10,7 +10,6 @@ use Rattle.lent.proofs.Pieces.{Put, put, then, contract, same-length as kept}
 use Rattle.listing.specs.Text.{fields}
 use Rattle.listing.proofs.Lengths.{fields-few, field-few}
 use Rattle.listing.proofs.Items.{one-field-more}
-use borrow.Author.Needs.{needs}
 use Rattle.listing.proofs.put.fields.Statement.{statement}
 use Rattle.listing.proofs.put.fields.Tie as tie
 

@@ -1,5 +1,4 @@
 -- `listing::put::refused_line` meets its contract: its parts, one behind the other.
-use mathlib.Core.Path.{_≡_, subst}
 use Prim.Native.Nat.{ℕ}
 use mathlib.Core.List.{List, [], _∷_}
 use native.Mathlib.Omega.{arith}

@@ -1,5 +1,5 @@
 -- `schedule::read::thread` meets its contract: the thread, then the second operand where the code has one.
-use mathlib.Core.Path.{sym, ap, _∙_}
+use mathlib.Core.Path.{sym, _∙_}
 use native.Mathlib.Omega.{arith}
 use Rattle.numbers.proofs.Within.{reads-within}
 use borrow.Author.Tests.{eq-eqb, ne-eqb}

@@ -1,9 +1,6 @@
 -- `schedule::write::entry` meets its contract: tested 12, then written where there is room, with as many operands as the code has.
-use mathlib.Core.Path.{_≡_, refl, sym, _∙_}
-use mathlib.Core.Bool.{false, true}
-use lib.Dec.{eqb}
+use mathlib.Core.Path.{refl, sym, _∙_}
 use borrow.Author.Tests.{eq-eqb, ne-eqb}
-use Rattle.schedule.specs.Codes.{operands}
 use Rattle.schedule.specs.Write.{entryBytes}
 use borrow.Author.Needs.{needs}
 use Rattle.schedule.proofs.write.entry.Statement.{statement}

@@ -1,6 +1,6 @@
 -- `schedule::write::pair` meets its contract: two numbers, one behind the other, where both fit.
 use Prim.Native.Nat.{_<_, _≤_}
-use mathlib.Core.Path.{_≡_, sym, ap, _∙_}
+use mathlib.Core.Path.{sym, ap, _∙_}
 use native.Mathlib.Omega.{arith}
 use lib.ListN.{length}
 use Rattle.lent.specs.declared.Writing.the-variants.{Wrote}

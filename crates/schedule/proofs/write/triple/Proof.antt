@@ -1,10 +1,9 @@
 -- `schedule::write::triple` meets its contract: three numbers, one behind the other, where all fit.
 use Prim.Native.Nat.{_<_, _≤_}
-use mathlib.Core.Path.{_≡_, sym, ap, subst, _∙_}
-use mathlib.Core.List.{List, _++_, append-assoc}
+use mathlib.Core.Path.{sym, ap, _∙_}
+use mathlib.Core.List.{append-assoc}
 use native.Mathlib.Omega.{arith}
 use lib.ListN.{length}
-use Rattle.numbers.specs.Write.{groupsOf}
 use Rattle.lent.specs.declared.Writing.the-variants.{Wrote}
 use Rattle.lent.proofs.Laws.{writing-short, written-short, writing-fits}
 use Rattle.lent.proofs.Pieces.{put, then, put-at-start}
