@@ -18,7 +18,7 @@ CRATES = ROOT / "crates"
 
 # The empty versions and plausible slips that 01 names, and the edits that try them.
 NAMED = [
-    ("empty version: a machine that refuses everything", "call/refuses_everything"),
+    ("empty version: a machine that refuses everything", "refuse/refuses_everything"),
     ("empty version: one answering `empty` always, for futures", "answer/empty_always"),
     ("empty version: one answering `empty` always, for a Dequeue", "thread/dequeue_answers_empty"),
     ("empty version: one whose steps do nothing", "memory/steps_do_nothing"),

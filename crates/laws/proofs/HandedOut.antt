@@ -10,19 +10,19 @@ use native.Mathlib.Nat.{mod-eq-of-lt}
 use lib.ListN.{getD}
 use Rattle.refusal.specs.declared.Refusal.the-variants.{NotOwnFuture}
 use Rattle.tally.specs.Tally.{up}
-use Rattle.call.specs.declared.test.Used.{Used}
+use Rattle.next.specs.declared.Used.{Used}
 use Rattle.answer.specs.declared.Item.{Item}
 use Rattle.answer.specs.declared.Outcome.{Outcome}
 use Rattle.answer.specs.declared.Outcome.the-variants as outcome
 use Rattle.answer.specs.declared.Future.{Future}
 use Rattle.answer.specs.declared.Verdict.{Verdict}
 use Rattle.answer.specs.declared.Verdict.the-variants as verdict
-use Rattle.call.specs.Next.{nextNode, nextFuture, nextAnnouncement}
-use Rattle.call.specs.Refusals.{foreign}
+use Rattle.next.specs.Next.{nextNode, nextFuture, nextAnnouncement}
+use Rattle.refuse.specs.Refusals.{foreign}
 use Rattle.machine.specs.declared.Machine.{Machine}
 use Rattle.machine.specs.declared.Told.{Told}
-use Rattle.call.specs.declared.entry.Entry.{Entry}
-use Rattle.call.specs.declared.entry.Entry.the-variants.{Enqueue, Dequeue, FutureEnqueue, FutureDequeue, Evaluate, Step, Run}
+use Rattle.entry.specs.declared.Entry.{Entry}
+use Rattle.entry.specs.declared.Entry.the-variants.{Enqueue, Dequeue, FutureEnqueue, FutureDequeue, Evaluate, Step, Run}
 use Rattle.machine.specs.State.{rowAt, noFuture}
 use Rattle.machine.specs.Steps.{stepOf, isMore, oneMore, advance}
 use Rattle.machine.specs.Entries.{refusing, decided, linkedBehind, deferEnqueue, deferDequeue, setOff, startEnqueue, startDequeue, evaluateWaiting, evaluateOwn, evaluateKnown, enqueue, dequeue, futureEnqueue, futureDequeue, evaluate, run, apply}

@@ -15,14 +15,14 @@ use Rattle.answer.specs.declared.Answer.the-variants as answer
 use Rattle.answer.specs.declared.Verdict.{Verdict}
 use Rattle.answer.specs.declared.Verdict.the-variants as verdict
 use Rattle.answer.specs.Answer.{answered}
-use Rattle.call.specs.Refusals.{foreign}
-use Rattle.call.specs.Next.{nextFuture}
+use Rattle.refuse.specs.Refusals.{foreign}
+use Rattle.next.specs.Next.{nextFuture}
 use Rattle.place.specs.declared.After.{After}
 use Rattle.place.specs.declared.After.the-variants as afterwards
 use Rattle.machine.specs.declared.Machine.{Machine}
 use Rattle.machine.specs.declared.Told.{Told}
-use Rattle.call.specs.declared.entry.Entry.{Entry}
-use Rattle.call.specs.declared.entry.Entry.the-variants.{Enqueue, Dequeue, FutureEnqueue, FutureDequeue, Evaluate, Step, Run}
+use Rattle.entry.specs.declared.Entry.{Entry}
+use Rattle.entry.specs.declared.Entry.the-variants.{Enqueue, Dequeue, FutureEnqueue, FutureDequeue, Evaluate, Step, Run}
 use Rattle.machine.specs.State.{rowAt, noFuture}
 use Rattle.machine.specs.Pairing.{pairing, settled}
 use Rattle.pairing.specs.declared.Cursor.{Cursor}

@@ -9,7 +9,7 @@ use Rattle.answer.specs.declared.Answer.{Answer}
 use Rattle.answer.specs.declared.Answer.the-variants.{More}
 use Rattle.machine.specs.declared.Machine.{Machine}
 use Rattle.machine.specs.declared.Told.{Told}
-use Rattle.call.specs.declared.entry.Entry.the-variants.{Step, Run}
+use Rattle.entry.specs.declared.Entry.the-variants.{Step, Run}
 use Rattle.machine.specs.Steps.{hop, tell, stepOf, isMore, oneMore, advance}
 use Rattle.machine.specs.Pairing.{settled}
 use Rattle.machine.specs.Entries.{apply}

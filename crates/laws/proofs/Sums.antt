@@ -9,7 +9,7 @@ use Rattle.refusal.specs.declared.Refusal.the-variants.{NoSuchThread, NotInCall
 use Rattle.answer.specs.declared.Answer.the-variants.{More}
 use Rattle.answer.specs.declared.Verdict.{Verdict}
 use Rattle.answer.specs.declared.Verdict.the-variants.{Accepted, Refused}
-use Rattle.call.specs.Refusals.{steppable}
+use Rattle.refuse.specs.Refusals.{steppable}
 use Rattle.place.specs.declared.Place.{Place}
 use Rattle.place.specs.declared.After.{After}
 use Rattle.place.specs.declared.After.the-variants as afterwards

@@ -3,7 +3,7 @@ use Prim.Native.Nat.{ℕ}
 use mathlib.Core.Path.{_≡_}
 use mathlib.Core.Logic.{_⊎_}
 use Rattle.tally.specs.Tally.{up}
-use Rattle.call.specs.declared.test.Used.{Used}
+use Rattle.next.specs.declared.Used.{Used}
 
 -- a count as it was, or one handed out
 abbrev pub AtMostOne : ℕ → ℕ → Type 0

@@ -8,7 +8,7 @@ use lib.ListN.{length}
 use Rattle.refusal.specs.declared.Refusal.{Refusal}
 use Rattle.lent.specs.Lent.{writtenAt}
 use Rattle.lent.proofs.Laws.{nothing-written}
-use Rattle.call.specs.declared.entry.Entry.{Entry}
+use Rattle.entry.specs.declared.Entry.{Entry}
 use Rattle.answer.specs.declared.Answer.the-variants as answer
 use Rattle.schedule.specs.declared.read.EntryReading.{EntryReading}
 use Rattle.schedule.specs.declared.read.EntryReading.the-variants as entry

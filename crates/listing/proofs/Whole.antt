@@ -7,7 +7,7 @@ use mathlib.Core.List.{List, [], _++_, append-assoc, append-nil}
 use native.Mathlib.Omega.{arith}
 use lib.ListN.{length, length-take}
 use Rattle.refusal.specs.declared.Refusal.{Refusal}
-use Rattle.call.specs.declared.entry.Entry.{Entry}
+use Rattle.entry.specs.declared.Entry.{Entry}
 use Rattle.answer.specs.declared.Verdict.the-variants.{Accepted, Refused}
 use Rattle.schedule.specs.declared.read.SetUpReading.{SetUpReading}
 use Rattle.schedule.specs.declared.read.SetUpReading.the-variants as setup

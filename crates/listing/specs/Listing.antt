@@ -2,7 +2,7 @@
 use Prim.Native.Nat.{ℕ, _+_}
 use mathlib.Core.List.{List, [], _∷_, _++_}
 use lib.ListN.{take}
-use Rattle.call.specs.declared.entry.Entry.{Entry}
+use Rattle.entry.specs.declared.Entry.{Entry}
 use Rattle.answer.specs.declared.Answer.the-variants.{Refused}
 use Rattle.schedule.specs.declared.read.SetUpReading.{SetUpReading}
 use Rattle.schedule.specs.declared.read.SetUpReading.the-variants as setup

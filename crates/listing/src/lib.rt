@@ -11,7 +11,7 @@ ghost use Rattle.listing.specs.Listing.{counted};
 ghost use Rattle.listing.specs.Pieces.{opened, firstLine, lastLine, beginning, stopped, refusedAt, entered, nextLine, lines, told};
 use answer::Answer;
 use answer::Verdict;
-use call::entry::Entry;
+use entry::Entry;
 use lent::Writing;
 use machine::Machine;
 use refusal::Refusal;

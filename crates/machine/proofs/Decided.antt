@@ -11,10 +11,10 @@ use Rattle.answer.specs.declared.Outcome.the-variants as outcome
 use Rattle.answer.specs.declared.Future.{Future}
 use Rattle.answer.specs.declared.Verdict.{Verdict}
 use Rattle.answer.specs.declared.Verdict.the-variants.{Accepted, Refused}
-use Rattle.call.specs.declared.entry.Entry.{Entry}
-use Rattle.call.specs.declared.entry.Entry.the-variants.{Enqueue, Dequeue, FutureEnqueue, FutureDequeue, Evaluate, Step, Run}
-use Rattle.call.specs.Operands.{threadOf, futureOf}
-use Rattle.call.specs.Refusals.{first, callable, foreign, waitingVerdict, ownVerdict, verdict}
+use Rattle.entry.specs.declared.Entry.{Entry}
+use Rattle.entry.specs.declared.Entry.the-variants.{Enqueue, Dequeue, FutureEnqueue, FutureDequeue, Evaluate, Step, Run}
+use Rattle.entry.specs.Operands.{threadOf, futureOf}
+use Rattle.refuse.specs.Refusals.{first, callable, foreign, waitingVerdict, ownVerdict, verdict}
 use Rattle.machine.specs.declared.Machine.{Machine}
 use Rattle.machine.specs.declared.Told.{Told}
 use Rattle.machine.specs.State.{rowAt, futureAt}

@@ -23,13 +23,13 @@ use Rattle.answer.specs.declared.Verdict.{Verdict}
 use Rattle.answer.specs.declared.Verdict.the-variants.{Accepted, Refused}
 use Rattle.machine.specs.declared.Told.{Told}
 use Rattle.machine.specs.declared.Machine.{Machine}
-use Rattle.call.specs.declared.entry.Entry.{Entry}
-use Rattle.call.specs.declared.entry.Entry.the-variants.{Enqueue, Dequeue, FutureEnqueue, FutureDequeue, Evaluate, Step, Run}
-use Rattle.call.specs.declared.test.Needs.{Needs}
+use Rattle.entry.specs.declared.Entry.{Entry}
+use Rattle.entry.specs.declared.Entry.the-variants.{Enqueue, Dequeue, FutureEnqueue, FutureDequeue, Evaluate, Step, Run}
+use Rattle.refuse.specs.declared.Needs.{Needs}
 use Rattle.machine.specs.State.{rowAt, withRow, noFuture}
-use Rattle.call.specs.Next.{nextNode, nextFuture, nextAnnouncement}
+use Rattle.next.specs.Next.{nextNode, nextFuture, nextAnnouncement}
 use Rattle.machine.specs.HandOut.{handOutNode, handOutFuture, handOutAnnouncement}
-use Rattle.call.specs.Refusals.{callable, steppable, foreign, lacking, callVerdict, enqueueNeeds, dequeueNeeds, futureEnqueueNeeds, futureDequeueNeeds, evaluateNeeds}
+use Rattle.refuse.specs.Refusals.{callable, steppable, foreign, lacking, callVerdict, enqueueNeeds, dequeueNeeds, futureEnqueueNeeds, futureDequeueNeeds, evaluateNeeds}
 use Rattle.machine.specs.Steps.{advance}
 
 -- only the number is returned, and the machine stays unchanged

@@ -8,7 +8,7 @@ use Rattle.cells.specs.declared.Request.{Request}
 use Rattle.memory.specs.Memory.{noCell}
 use Rattle.answer.specs.declared.Item.{Item}
 use Rattle.answer.specs.declared.Outcome.the-variants.{Waiting}
-use Rattle.call.specs.Next.{nextNode, nextFuture, nextAnnouncement}
+use Rattle.next.specs.Next.{nextNode, nextFuture, nextAnnouncement}
 use Rattle.machine.specs.declared.Machine.{Machine}
 
 -- a node holds its item and no link

@@ -13,7 +13,7 @@ use Rattle.row.specs.Row.{freshRow, noRow}
 use Rattle.answer.specs.declared.Item.{Item}
 use Rattle.answer.specs.declared.Future.{Future}
 use Rattle.answer.specs.declared.Outcome.the-variants.{Waiting}
-use Rattle.call.specs.Refusals.{inRange}
+use Rattle.entry.specs.Range.{inRange}
 use Rattle.machine.specs.declared.Machine.{Machine}
 use Rattle.machine.specs.declared.SetUp.{SetUp}
 

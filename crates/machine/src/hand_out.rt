@@ -6,12 +6,12 @@ use crate::Machine;
 use answer::Future;
 use answer::Item;
 use answer::Outcome;
-use call::test::Used;
 use cells::Announcement;
 use cells::Cell;
 use cells::Link;
 use cells::OldTail;
 use cells::Request;
+use next::Used;
 
 impl Machine {
     // The node holds the item and no link.

@@ -5,7 +5,7 @@
 // is taken by its remainder, a count goes up with wrap and down to 0. No machine that entries reach from
 // fresh meets one of these.
 pub mod engine;
-pub mod entry;
+pub mod entries;
 pub mod hand_out;
 pub mod pair;
 
@@ -18,7 +18,6 @@ use answer::Future;
 use answer::Item;
 use answer::Outcome;
 use answer::Verdict;
-use call::test::Used;
 use cells::Announcement;
 use cells::Cell;
 use cells::DequeueCount;
@@ -30,6 +29,7 @@ use cells::Link;
 use cells::OldTail;
 use cells::Request;
 use cells::Tail;
+use next::Used;
 use row::Row;
 use tally::Tally;
 
@@ -101,11 +101,13 @@ impl Machine {
         ensures { λ r. ⌜ r ≡ setUp threads nodes ⌝ }
     {
         SetUp {
-            verdict: call::entry::in_range(threads, nodes),
+            verdict: entry::in_range(threads, nodes),
             machine: Machine::fresh(threads, nodes),
         }
     }
 
+    // One element of the machine. A function that indexes an array of its own machine holds that machine a
+    // second time; one that reads by these and hands the machine on does not.
     pub(crate) fn row_at(self, thread: usize) -> Row
         requires { ⌜ thread < 8 ⌝ }
         ensures { λ r. ⌜ r ≡ rowAt self thread ⌝ }

@@ -5,7 +5,7 @@ mod script;
 mod show;
 
 use answer::Verdict;
-use call::entry::Entry;
+use entry::Entry;
 use machine::Machine;
 
 // The machine, and the place of the next entry since its set-up.

@@ -1,7 +1,7 @@
 // Reading the lines of a script.
 ghost use Prim.Native.Nat.{_≤_};
 ghost use lib.ListN.{length};
-use call::entry::Entry;
+use entry::Entry;
 
 // The largest number that a line can name.
 const LAST: u32 = 4294967295;

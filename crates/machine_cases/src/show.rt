@@ -3,7 +3,7 @@
 ghost use Prim.Native.Nat.{_≤_};
 ghost use lib.ListN.{length};
 use answer::Answer;
-use call::entry::Entry;
+use entry::Entry;
 use lent::Writing;
 use machine::Machine;
 use machine::Told;

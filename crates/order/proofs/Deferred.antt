@@ -26,7 +26,7 @@ use Rattle.place.specs.declared.Place.the-variants.{Idle}
 use Rattle.row.specs.declared.Row.{Row}
 use Rattle.row.specs.Row.{withEnqueue, withDequeue, firstWith}
 use Rattle.answer.specs.declared.Item.{Item}
-use Rattle.call.specs.Next.{nextNode, nextFuture}
+use Rattle.next.specs.Next.{nextNode, nextFuture}
 use Rattle.machine.specs.declared.Machine.{Machine}
 use Rattle.machine.specs.State.{rowAt}
 use Rattle.machine.specs.HandOut.{handOutNode}

@@ -21,12 +21,13 @@ use Rattle.answer.specs.declared.Outcome.the-variants as outcome
 use Rattle.answer.specs.declared.Outcome.the-variants.{Waiting}
 use Rattle.answer.specs.declared.Verdict.{Verdict}
 use Rattle.answer.specs.declared.Verdict.the-variants.{Accepted, Refused}
-use Rattle.call.specs.declared.entry.Entry.{Entry}
-use Rattle.call.specs.declared.entry.Entry.the-variants as entry
-use Rattle.call.specs.declared.test.Needs.{Needs}
-use Rattle.call.specs.Next.{nextNode, nextFuture}
-use Rattle.call.specs.Refusals.{whereAccepted, steppable, lacking, callVerdict, enqueueNeeds, dequeueNeeds, futureEnqueueNeeds, futureDequeueNeeds, evaluateNeeds, some}
-use Rattle.call.proofs.Accepted.{Left, callable-is-below, callable-is-idle, nothing-lacks, call-accepted}
+use Rattle.entry.specs.declared.Entry.{Entry}
+use Rattle.entry.specs.declared.Entry.the-variants as entry
+use Rattle.refuse.specs.declared.Needs.{Needs}
+use Rattle.next.specs.Next.{nextNode, nextFuture}
+use Rattle.refuse.specs.Refusals.{steppable, lacking, callVerdict, enqueueNeeds, dequeueNeeds, futureEnqueueNeeds, futureDequeueNeeds, evaluateNeeds, some}
+use Rattle.answer.specs.Verdicts.{whereAccepted}
+use Rattle.refuse.proofs.Accepted.{Left, callable-is-below, callable-is-idle, nothing-lacks, call-accepted}
 use Rattle.machine.specs.declared.Machine.{Machine}
 use Rattle.machine.specs.declared.Told.{Told}
 use Rattle.machine.specs.State.{rowAt, noFuture}

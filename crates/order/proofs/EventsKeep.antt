@@ -9,7 +9,7 @@ use Rattle.place.specs.declared.EnqueueStep.the-variants.{E1}
 use Rattle.place.specs.declared.DequeueStep.the-variants.{D1}
 use Rattle.row.specs.Row.{placed}
 use Rattle.answer.specs.declared.Item.{Item}
-use Rattle.call.specs.Next.{nextNode}
+use Rattle.next.specs.Next.{nextNode}
 use Rattle.machine.specs.declared.Machine.{Machine}
 use Rattle.machine.specs.State.{rowAt, withRow}
 use Rattle.machine.specs.HandOut.{handOutNode}

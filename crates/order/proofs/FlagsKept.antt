@@ -22,7 +22,7 @@ use Rattle.row.specs.Row.{placed, calling, cleared, withEnqueue, withDequeue, f
 use Rattle.answer.specs.declared.Item.{Item}
 use Rattle.answer.specs.declared.Outcome.the-variants as outcome
 use Rattle.pairing.specs.declared.Cursor.{Cursor}
-use Rattle.call.specs.Next.{nextNode, nextFuture, nextAnnouncement}
+use Rattle.next.specs.Next.{nextNode, nextFuture, nextAnnouncement}
 use Rattle.machine.specs.declared.Machine.{Machine}
 use Rattle.machine.specs.State.{rowAt, memoryOf, noFuture, freshMachine}
 use Rattle.machine.specs.Pairing.{pairing, settled}

@@ -28,7 +28,7 @@ use Rattle.row.specs.declared.Row.{Row}
 use Rattle.row.specs.Row.{placed, calling, withEnqueue, withDequeue, noRow}
 use Rattle.answer.specs.declared.Future.{Future}
 use Rattle.answer.specs.declared.Outcome.the-variants.{Waiting}
-use Rattle.call.specs.Next.{nextNode, nextFuture, nextAnnouncement}
+use Rattle.next.specs.Next.{nextNode, nextFuture, nextAnnouncement}
 use Rattle.answer.specs.Answer.{answered}
 use Rattle.machine.specs.declared.Machine.{Machine}
 use Rattle.machine.specs.State.{rowAt, freshMachine}

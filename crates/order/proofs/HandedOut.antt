@@ -7,8 +7,8 @@ use lib.ListN.{set}
 use Rattle.cells.specs.declared.Request.{Request}
 use Rattle.memory.specs.Memory.{noCell}
 use Rattle.answer.specs.declared.Item.{Item}
-use Rattle.call.specs.declared.test.Used.{Used}
-use Rattle.call.specs.Next.{nextNode, nextAnnouncement}
+use Rattle.next.specs.declared.Used.{Used}
+use Rattle.next.specs.Next.{nextNode, nextAnnouncement}
 use Rattle.machine.specs.declared.Machine.{Machine}
 use Rattle.machine.specs.HandOut.{handOutNode, handOutAnnouncement}
 use Rattle.laws.proofs.HandedOut.{nodes-in-order, announcements-in-order}

@@ -27,7 +27,7 @@ use Rattle.place.specs.declared.After.the-variants as afterwards
 use Rattle.place.specs.declared.EnqueueStep.the-variants.{E1, E2, E3, E4, E5}
 use Rattle.place.specs.declared.BatchStep.the-variants.{B1, B2}
 use Rattle.place.specs.declared.RunStep.the-variants.{A1, A2, A3, A4, A5, A6, A7, A8}
-use Rattle.call.specs.declared.entry.Entry.{Entry}
+use Rattle.entry.specs.declared.Entry.{Entry}
 use Rattle.row.specs.declared.Row.{Row}
 use Rattle.machine.specs.declared.Machine.{Machine}
 use Rattle.machine.specs.State.{rowAt, memoryOf}

@@ -12,8 +12,8 @@ use Rattle.thread.specs.Dequeue.{dequeueAccess, dequeueAfter}
 use Rattle.thread.specs.Batch.{batchAccess, batchAfter}
 use Rattle.thread.specs.Dequeues.{dequeuesAccess, dequeuesAfter}
 use Rattle.running.specs.Running.{runAccess, runAfter}
-use Rattle.call.specs.declared.entry.Entry.{Entry}
-use Rattle.call.specs.declared.entry.Entry.the-variants.{Enqueue, Dequeue, FutureEnqueue, FutureDequeue, Evaluate, Step, Run}
+use Rattle.entry.specs.declared.Entry.{Entry}
+use Rattle.entry.specs.declared.Entry.the-variants.{Enqueue, Dequeue, FutureEnqueue, FutureDequeue, Evaluate, Step, Run}
 use Rattle.machine.specs.declared.Machine.{Machine}
 use Rattle.machine.specs.State.{freshMachine}
 use Rattle.machine.specs.Steps.{hop, advance}

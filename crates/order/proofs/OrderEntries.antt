@@ -13,7 +13,7 @@ use Rattle.place.specs.declared.EnqueueStep.the-variants.{E1}
 use Rattle.place.specs.declared.DequeueStep.the-variants.{D1}
 use Rattle.row.specs.declared.Row.{Row}
 use Rattle.row.specs.Row.{placed, withEnqueue, withDequeue, freshRow, noRow}
-use Rattle.call.specs.Next.{nextNode, nextFuture}
+use Rattle.next.specs.Next.{nextNode, nextFuture}
 use Rattle.machine.specs.declared.Machine.{Machine}
 use Rattle.machine.specs.State.{rowAt, freshMachine}
 use Rattle.machine.specs.Entries.{linkedBehind, deferEnqueue, deferDequeue}

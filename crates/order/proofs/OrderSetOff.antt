@@ -19,7 +19,7 @@ use Rattle.place.specs.declared.BatchStep.the-variants.{B1}
 use Rattle.place.specs.declared.DequeuesStep.the-variants.{Q1}
 use Rattle.row.specs.declared.Row.{Row}
 use Rattle.row.specs.Row.{calling, request}
-use Rattle.call.specs.Next.{nextAnnouncement}
+use Rattle.next.specs.Next.{nextAnnouncement}
 use Rattle.machine.specs.declared.Machine.{Machine}
 use Rattle.machine.specs.State.{rowAt, withRow}
 use Rattle.machine.specs.HandOut.{handOutAnnouncement}

@@ -6,9 +6,9 @@ use native.Mathlib.Omega.{arith}
 use native.Mathlib.Decide.{ℕ-discrete, decLt}
 use Rattle.chain.specs.Positions.{At}
 use Rattle.chain.proofs.Positions.{one-element}
-use Rattle.call.specs.declared.entry.Entry.{Entry}
+use Rattle.entry.specs.declared.Entry.{Entry}
 use Rattle.answer.specs.declared.Verdict.the-variants.{Accepted}
-use Rattle.call.specs.Refusals.{inRange}
+use Rattle.entry.specs.Range.{inRange}
 use Rattle.machine.specs.declared.Machine.{Machine}
 use Rattle.machine.specs.State.{freshMachine}
 use Rattle.order.specs.Reached.{after}

@@ -31,7 +31,7 @@ use Rattle.row.specs.declared.Row.{Row}
 use Rattle.row.specs.Row.{placed, calling, cleared, withEnqueue, withDequeue, freshRow, noRow}
 use Rattle.answer.specs.declared.Item.{Item}
 use Rattle.pairing.specs.declared.Cursor.{Cursor}
-use Rattle.call.specs.Next.{nextNode, nextFuture, nextAnnouncement}
+use Rattle.next.specs.Next.{nextNode, nextFuture, nextAnnouncement}
 use Rattle.machine.specs.declared.Machine.{Machine}
 use Rattle.machine.specs.State.{rowAt, memoryOf, noItem, freshMachine}
 use Rattle.machine.specs.HandOut.{handOutNode}

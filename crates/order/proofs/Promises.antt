@@ -20,8 +20,8 @@ use Rattle.place.specs.declared.DequeuesStep.the-variants.{Q1, Q2, Q3}
 use Rattle.place.specs.declared.RunStep.the-variants.{A1, A2, A3, A4, A5, A6, A7, A8}
 use Rattle.row.specs.declared.Row.{Row}
 use Rattle.answer.specs.declared.Verdict.the-variants.{Accepted}
-use Rattle.call.specs.declared.entry.Entry.{Entry}
-use Rattle.call.specs.Refusals.{inRange}
+use Rattle.entry.specs.declared.Entry.{Entry}
+use Rattle.entry.specs.Range.{inRange}
 use Rattle.machine.specs.declared.Machine.{Machine}
 use Rattle.machine.specs.State.{freshMachine, rowAt, memoryOf}
 use Rattle.machine.specs.Steps.{hop}

@@ -15,9 +15,9 @@ use Rattle.cells.specs.declared.Front.{Front}
 use Rattle.memory.specs.Memory.{noCell, noAnnouncement}
 use Rattle.row.specs.Row.{freshRow, noRow}
 use Rattle.answer.specs.declared.Verdict.the-variants.{Accepted}
-use Rattle.call.specs.declared.entry.Entry.{Entry}
-use Rattle.call.specs.Refusals.{inRange}
-use Rattle.call.proofs.Accepted.{in-range}
+use Rattle.entry.specs.declared.Entry.{Entry}
+use Rattle.entry.specs.Range.{inRange}
+use Rattle.entry.proofs.Range.{in-range}
 use Rattle.machine.specs.declared.Machine.{Machine}
 use Rattle.machine.specs.State.{freshMachine, rowAt}
 use Rattle.order.proofs.Ghost.{Ghost, pendingOf, freshGhost, ghostDoes}

@@ -17,10 +17,12 @@ use Rattle.answer.specs.declared.Answer.{Answer}
 use Rattle.answer.specs.declared.Answer.the-variants as answer
 use Rattle.answer.specs.declared.Verdict.{Verdict}
 use Rattle.answer.specs.declared.Verdict.the-variants.{Accepted, Refused}
-use Rattle.call.specs.declared.entry.Entry.{Entry}
-use Rattle.call.specs.declared.entry.Entry.the-variants as entry
+use Rattle.entry.specs.declared.Entry.{Entry}
+use Rattle.entry.specs.declared.Entry.the-variants as entry
 use Rattle.answer.specs.Answer.{answered}
-use Rattle.call.specs.Refusals.{whereAccepted, foreign, inRange, lacking, evaluateNeeds}
+use Rattle.entry.specs.Range.{inRange}
+use Rattle.refuse.specs.Refusals.{foreign, lacking, evaluateNeeds}
+use Rattle.answer.specs.Verdicts.{whereAccepted}
 use Rattle.machine.specs.declared.Machine.{Machine}
 use Rattle.machine.specs.declared.Told.{Told}
 use Rattle.machine.specs.State.{freshMachine, rowAt, noFuture}
@@ -28,7 +30,8 @@ use Rattle.machine.specs.Steps.{stepOf, isMore, oneMore, advance}
 use Rattle.machine.specs.Entries.{decided, refusing, evaluateWaiting, evaluateOwn, evaluateKnown, evaluate, enqueue, dequeue, futureEnqueue, futureDequeue, run, apply}
 use Rattle.order.specs.Events.{Event, EnqueueStarts, DequeueStarts, EnqueueDeferred, DequeueDeferred, BatchSetOff, FutureAsked, StepTaken, does, afterEvents, keptBeside, runEvents, evaluateOwnEvents, evaluateEvents, entryEvents, events}
 use Rattle.order.specs.Order.{Given, Story, of, resultsIn, gives, happens, freshStory, storyOf}
-use Rattle.order.specs.PlainQueue.{threadOf, resultsTold}
+use Rattle.entry.specs.Operands.{threadOf}
+use Rattle.order.specs.PlainQueue.{resultsTold}
 use Rattle.order.specs.Reached.{after}
 use Rattle.order.proofs.Ghost.{Ghost, freshGhost}
 use Rattle.order.proofs.Events.{futureIn, entry-made}
@@ -125,7 +128,7 @@ module _ (m : Machine) where
           own-tells (t % 8) (f % 512) (futureIn m f .outcome)
           (ap (λ (k : ℕ). getD (m .futures) k noFuture .outcome) (let z : f % 512 % 512 ≡ f % 512 = omega arith in z))
 
-  entry-tells : (e : Entry) → resultsAmong m (entryEvents m e) ≡ toldTo (threadOf e) (apply m e .answer)
+  entry-tells : (e : Entry) → resultsAmong m (entryEvents m e) ≡ toldTo (threadOf e % 8) (apply m e .answer)
   unfolding apply entryEvents enqueue dequeue futureEnqueue futureDequeue evaluate run resultsAmong
   entry-tells (entry.Enqueue t v) = decided-tells _ m (t % 8) _ _ (either-gives-nothing (eqb (rowAt m (t % 8) .count) 0) _ _ refl refl)
   entry-tells (entry.Dequeue t) = decided-tells _ m (t % 8) _ _ (either-gives-nothing (eqb (rowAt m (t % 8) .count) 0) _ _ refl refl)

@@ -24,7 +24,7 @@ use Rattle.place.specs.Place.{placeAfter}
 use Rattle.thread.specs.Calls.{after}
 use Rattle.row.specs.declared.Row.{Row}
 use Rattle.row.specs.Row.{placed, calling, withEnqueue, withDequeue, freshRow, noRow}
-use Rattle.call.specs.Next.{nextNode, nextFuture, nextAnnouncement}
+use Rattle.next.specs.Next.{nextNode, nextFuture, nextAnnouncement}
 use Rattle.machine.specs.declared.Machine.{Machine}
 use Rattle.machine.specs.State.{rowAt, memoryOf, freshMachine}
 use Rattle.machine.specs.Steps.{accessed, requestOf, hop, tell, stepOf}

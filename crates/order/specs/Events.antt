@@ -13,11 +13,12 @@ use Rattle.row.specs.Row.{placed}
 use Rattle.answer.specs.declared.Future.{Future}
 use Rattle.answer.specs.declared.Outcome.{Outcome}
 use Rattle.answer.specs.declared.Outcome.the-variants as outcome
-use Rattle.call.specs.declared.entry.Entry.{Entry}
-use Rattle.call.specs.declared.entry.Entry.the-variants as entry
-use Rattle.call.specs.declared.test.Needs.{Needs}
-use Rattle.call.specs.Next.{nextNode, nextFuture}
-use Rattle.call.specs.Refusals.{whereAccepted, callable, steppable, foreign, lacking, callVerdict, enqueueNeeds, dequeueNeeds, futureEnqueueNeeds, futureDequeueNeeds, evaluateNeeds}
+use Rattle.entry.specs.declared.Entry.{Entry}
+use Rattle.entry.specs.declared.Entry.the-variants as entry
+use Rattle.refuse.specs.declared.Needs.{Needs}
+use Rattle.next.specs.Next.{nextNode, nextFuture}
+use Rattle.refuse.specs.Refusals.{callable, steppable, foreign, lacking, callVerdict, enqueueNeeds, dequeueNeeds, futureEnqueueNeeds, futureDequeueNeeds, evaluateNeeds}
+use Rattle.answer.specs.Verdicts.{whereAccepted}
 use Rattle.machine.specs.declared.Machine.{Machine}
 use Rattle.machine.specs.State.{rowAt, withRow, noFuture}
 use Rattle.machine.specs.HandOut.{handOutNode}

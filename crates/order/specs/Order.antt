@@ -22,9 +22,9 @@ use Rattle.place.specs.declared.RunStep.{RunStep}
 use Rattle.place.specs.declared.RunStep.the-variants.{A1, A2, A3, A4, A5, A6, A7, A8}
 use Rattle.answer.specs.declared.Answer.{Answer}
 use Rattle.answer.specs.declared.Answer.the-variants as answer
-use Rattle.call.specs.declared.entry.Entry.{Entry}
+use Rattle.entry.specs.declared.Entry.{Entry}
 use Rattle.answer.specs.Answer.{answered}
-use Rattle.call.specs.Next.{nextFuture}
+use Rattle.next.specs.Next.{nextFuture}
 use Rattle.machine.specs.declared.Machine.{Machine}
 use Rattle.machine.specs.State.{rowAt, memoryOf, noFuture}
 use Rattle.machine.specs.Steps.{stepOf, isMore}

@@ -9,8 +9,8 @@ use lib.ListN.{getD}
 use Rattle.chain.specs.Positions.{At, In}
 use Rattle.tally.specs.Fifo.{Result, left, results}
 use Rattle.answer.specs.declared.Outcome.the-variants.{Waiting}
-use Rattle.call.specs.declared.entry.Entry.{Entry}
-use Rattle.call.specs.declared.entry.Entry.the-variants as entry
+use Rattle.entry.specs.declared.Entry.{Entry}
+use Rattle.entry.specs.Operands.{threadOf}
 use Rattle.machine.specs.declared.Machine.{Machine}
 use Rattle.machine.specs.State.{noFuture}
 use Rattle.contents.specs.Contents as machine
@@ -68,18 +68,9 @@ pub record AsAPlainQueue (m : Machine) (s : Story) : Type 0 where
   pub onceEach : (j k a b f : ℕ) (x y : Effect) → At (s .order) j x → At (s .order) k y → At (x .call .futures) a f → At (y .call .futures) b f → (j ≡ k) × (a ≡ b)
 
 -- the results among the answers to a list of entries, each with its thread (which is below 8 where the entry is accepted)
-abbrev pub threadOf : Entry → ℕ
-threadOf (entry.Enqueue t v) = t % 8
-threadOf (entry.Dequeue t) = t % 8
-threadOf (entry.FutureEnqueue t v) = t % 8
-threadOf (entry.FutureDequeue t) = t % 8
-threadOf (entry.Evaluate t f) = t % 8
-threadOf (entry.Step t) = t % 8
-threadOf (entry.Run t n) = t % 8
-
 unfoldable pub resultsTold : Machine → List Entry → List (ℕ × Result ℕ)
 resultsTold m [] = []
-resultsTold m (e ∷ es) = map (λ r. (threadOf e, r)) (resultsIn (apply m e .answer)) ++ resultsTold (apply m e .machine) es
+resultsTold m (e ∷ es) = map (λ r. (threadOf e % 8, r)) (resultsIn (apply m e .answer)) ++ resultsTold (apply m e .machine) es
 
 -- Of a fresh machine m and a list of entries: its events leave the machine that the entries leave, the story has the results that the entries told, in
 -- their order, and the promises hold. proofs/Ordered.antt has the theorem, calls-take-effect-in-order: for every set-up that is accepted and every

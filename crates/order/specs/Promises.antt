@@ -29,7 +29,7 @@ use Rattle.place.specs.declared.DequeuesStep.the-variants.{Q1, Q2, Q3}
 use Rattle.place.specs.declared.RunStep.{RunStep}
 use Rattle.place.specs.declared.RunStep.the-variants.{A1, A2, A3, A4, A5, A6, A7, A8}
 use Rattle.running.specs.Running.{walkTo}
-use Rattle.call.specs.declared.entry.Entry.{Entry}
+use Rattle.entry.specs.declared.Entry.{Entry}
 use Rattle.machine.specs.declared.Machine.{Machine}
 use Rattle.machine.specs.State.{rowAt, memoryOf}
 use Rattle.machine.specs.Steps.{hop}

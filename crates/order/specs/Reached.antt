@@ -1,6 +1,6 @@
 -- The machine after a list of entries. A refused entry changes nothing, so it may stand in the list.
 use mathlib.Core.List.{List, [], _∷_}
-use Rattle.call.specs.declared.entry.Entry.{Entry}
+use Rattle.entry.specs.declared.Entry.{Entry}
 use Rattle.machine.specs.declared.Machine.{Machine}
 use Rattle.machine.specs.Entries.{apply}
 

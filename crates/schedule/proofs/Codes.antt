@@ -5,9 +5,10 @@ use mathlib.Core.Path.{_≡_, refl, sym, subst}
 use native.Mathlib.Omega.{arith}
 use native.Mathlib.Decide.{ℕ-discrete}
 use borrow.Author.Tests.{ne-eqb}
-use Rattle.call.specs.declared.entry.Entry.{Entry}
-use Rattle.call.specs.declared.entry.Entry.the-variants.{Enqueue, Dequeue, FutureEnqueue, FutureDequeue, Evaluate, Step, Run}
-use Rattle.schedule.specs.Codes.{operands, entryOf, codeOf, threadOf, secondOf}
+use Rattle.entry.specs.declared.Entry.{Entry}
+use Rattle.entry.specs.declared.Entry.the-variants.{Enqueue, Dequeue, FutureEnqueue, FutureDequeue, Evaluate, Step, Run}
+use Rattle.entry.specs.Operands.{threadOf}
+use Rattle.schedule.specs.Codes.{operands, entryOf, codeOf, secondOf}
 use Rattle.schedule.specs.Write.{entryBytes}
 use Rattle.schedule.specs.Schedule.{bytesOf}
 

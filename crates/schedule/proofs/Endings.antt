@@ -14,7 +14,7 @@ use Rattle.refusal.specs.Numbers.{numberOf}
 use Rattle.numbers.specs.declared.Reading.the-variants.{Refused}
 use Rattle.numbers.proofs.Within.{refused-by-10-or-11}
 use Rattle.numbers.specs.Read.{numberAt, Bytes}
-use Rattle.call.specs.declared.entry.Entry.{Entry}
+use Rattle.entry.specs.declared.Entry.{Entry}
 use Rattle.answer.specs.declared.Verdict.the-variants as verdict
 use Rattle.schedule.specs.declared.read.SetUpReading.the-variants as setup
 use Rattle.schedule.specs.declared.read.EntryReading.{EntryReading}

@@ -4,7 +4,7 @@ use mathlib.Core.Path.{_≡_, sym, ap, _∙_, subst}
 use mathlib.Core.List.{List, _++_, append-nil}
 use lib.ListN.{drop, drop-of-length-le}
 use Rattle.numbers.specs.Read.{Bytes}
-use Rattle.call.specs.declared.entry.Entry.{Entry}
+use Rattle.entry.specs.declared.Entry.{Entry}
 use Rattle.schedule.specs.declared.read.SetUpReading.the-variants.{SetUp}
 use Rattle.schedule.specs.Read.{setUpOf}
 use Rattle.schedule.specs.Write.{setUpBytes}

@@ -10,7 +10,8 @@ use Rattle.lent.specs.Lent.{writing, written}
 use Rattle.lent.proofs.Laws.{refusal-changes-nothing, accepted-changes-only-these}
 use Rattle.answer.specs.declared.Verdict.{Verdict}
 use Rattle.answer.specs.declared.Verdict.the-variants as verdict
-use Rattle.call.specs.Refusals.{whereAccepted, inRange}
+use Rattle.entry.specs.Range.{inRange}
+use Rattle.answer.specs.Verdicts.{whereAccepted}
 use Rattle.schedule.specs.Write.{answerWhereAccepted, isCode, setUpBytes, entryBytes, setUpWriting, setUpWritten, entryWriting, entryWritten}
 
 -- whatever is tested first

@@ -16,14 +16,16 @@ use Rattle.numbers.proofs.Within.{reads-within}
 use Rattle.lent.specs.declared.Writing.the-variants.{Wrote}
 use Rattle.lent.specs.Lent.{writing, written}
 use Rattle.lent.proofs.Laws.{written-fits, accepted-fits}
-use Rattle.call.specs.declared.entry.Entry.{Entry}
+use Rattle.entry.specs.declared.Entry.{Entry}
 use Rattle.answer.specs.declared.Verdict.{Verdict}
 use Rattle.answer.specs.declared.Verdict.the-variants.{Accepted, Refused}
-use Rattle.call.specs.Refusals.{whereAccepted, inRange}
-use Rattle.call.proofs.Accepted.{in-range}
+use Rattle.entry.specs.Range.{inRange}
+use Rattle.answer.specs.Verdicts.{whereAccepted}
+use Rattle.entry.proofs.Range.{in-range}
 use Rattle.schedule.specs.declared.read.SetUpReading.the-variants.{SetUp}
 use Rattle.schedule.specs.declared.read.EntryReading.the-variants as entry
-use Rattle.schedule.specs.Codes.{operands, entryOf, threadOf, secondOf}
+use Rattle.entry.specs.Operands.{threadOf}
+use Rattle.schedule.specs.Codes.{operands, entryOf, secondOf}
 use Rattle.schedule.specs.Read.{after, setUpOf, secondAt, threadAt, entryAt}
 use Rattle.schedule.specs.Write.{pairBytes, tripleBytes, setUpBytes, entryBytes, answerWhereAccepted, setUpWriting, setUpWritten, entryWriting, entryWritten}
 use Rattle.schedule.specs.Schedule.{ended, first, entriesUpTo, entriesFrom, bytesOf, bytesOfAll, scheduleBytes}

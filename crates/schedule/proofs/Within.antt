@@ -5,7 +5,7 @@ use mathlib.Core.List.{List}
 use native.Mathlib.Omega.{arith}
 use lib.ListN.{length}
 use Rattle.numbers.proofs.Within.{reads-within}
-use Rattle.call.specs.declared.entry.Entry.{Entry}
+use Rattle.entry.specs.declared.Entry.{Entry}
 use Rattle.schedule.specs.declared.read.EntryReading.the-variants as entry
 use Rattle.schedule.specs.Read.{entryAt}
 use Rattle.schedule.proofs.Ways.{EntryWay, one-operand, two-operands, entry-way}

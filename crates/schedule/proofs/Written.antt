@@ -9,9 +9,9 @@ use Rattle.numbers.specs.declared.Reading.the-variants.{Number}
 use Rattle.numbers.specs.Read.{numberAt, Bytes}
 use Rattle.numbers.specs.Write.{groupsOf}
 use Rattle.numbers.proofs.OneEncoding.{what-reads-is-written}
-use Rattle.call.specs.declared.entry.Entry.{Entry}
+use Rattle.entry.specs.declared.Entry.{Entry}
 use Rattle.answer.specs.declared.Verdict.the-variants.{Accepted}
-use Rattle.call.specs.Refusals.{inRange}
+use Rattle.entry.specs.Range.{inRange}
 use Rattle.schedule.specs.declared.read.SetUpReading.the-variants.{SetUp}
 use Rattle.schedule.specs.declared.read.EntryReading.the-variants as entry
 use Rattle.schedule.specs.Codes.{entryOf}

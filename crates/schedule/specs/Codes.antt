@@ -2,8 +2,8 @@
 use Prim.Native.Nat.{ℕ}
 use mathlib.Core.Bool.{cond, _||_}
 use lib.Dec.{eqb}
-use Rattle.call.specs.declared.entry.Entry.{Entry}
-use Rattle.call.specs.declared.entry.Entry.the-variants.{Enqueue, Dequeue, FutureEnqueue, FutureDequeue, Evaluate, Step, Run}
+use Rattle.entry.specs.declared.Entry.{Entry}
+use Rattle.entry.specs.declared.Entry.the-variants.{Enqueue, Dequeue, FutureEnqueue, FutureDequeue, Evaluate, Step, Run}
 
 -- how many operands a code has, the thread among them; 0 where it is not 1 to 7
 unfoldable pub operands : ℕ → ℕ
@@ -23,7 +23,7 @@ entryOf code t x =
     (cond (eqb code 6) (Step t)
     (Run t x))))))
 
--- and back: an entry's code, its thread, and its second operand, 0 where the code lacks one
+-- and back: an entry's code, and its second operand, 0 where the code lacks one; its thread is entry's `threadOf`
 abbrev pub codeOf : Entry → ℕ
 codeOf (Enqueue t v) = 1
 codeOf (Dequeue t) = 2
@@ -32,15 +32,6 @@ codeOf (FutureDequeue t) = 4
 codeOf (Evaluate t f) = 5
 codeOf (Step t) = 6
 codeOf (Run t n) = 7
-
-abbrev pub threadOf : Entry → ℕ
-threadOf (Enqueue t v) = t
-threadOf (Dequeue t) = t
-threadOf (FutureEnqueue t v) = t
-threadOf (FutureDequeue t) = t
-threadOf (Evaluate t f) = t
-threadOf (Step t) = t
-threadOf (Run t n) = t
 
 abbrev pub secondOf : Entry → ℕ
 secondOf (Enqueue t v) = v

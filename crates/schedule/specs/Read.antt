@@ -12,7 +12,7 @@ use Rattle.numbers.specs.declared.Reading.the-variants.{Number, Refused}
 use Rattle.numbers.specs.Read.{numberAt}
 use Rattle.answer.specs.declared.Verdict.{Verdict}
 use Rattle.answer.specs.declared.Verdict.the-variants as verdict
-use Rattle.call.specs.Refusals.{inRange}
+use Rattle.entry.specs.Range.{inRange}
 use Rattle.schedule.specs.declared.read.SetUpReading.{SetUpReading}
 use Rattle.schedule.specs.declared.read.SetUpReading.the-variants as setup
 use Rattle.schedule.specs.declared.read.EntryReading.{EntryReading}

@@ -3,10 +3,11 @@ use Prim.Native.Nat.{ℕ, zero, suc, _+_}
 use mathlib.Core.List.{List, [], _∷_, _++_}
 use lib.ListN.{length}
 use Rattle.refusal.specs.declared.Refusal.{Refusal}
-use Rattle.call.specs.declared.entry.Entry.{Entry}
+use Rattle.entry.specs.declared.Entry.{Entry}
 use Rattle.schedule.specs.declared.read.EntryReading.{EntryReading}
 use Rattle.schedule.specs.declared.read.EntryReading.the-variants as entry
-use Rattle.schedule.specs.Codes.{codeOf, threadOf, secondOf}
+use Rattle.entry.specs.Operands.{threadOf}
+use Rattle.schedule.specs.Codes.{codeOf, secondOf}
 use Rattle.schedule.specs.Read.{entryAt}
 use Rattle.schedule.specs.Write.{setUpBytes, entryBytes}
 

@@ -11,7 +11,8 @@ use Rattle.lent.specs.declared.Writing.the-variants.{Refused}
 use Rattle.lent.specs.Lent.{writing, written}
 use Rattle.answer.specs.declared.Verdict.{Verdict}
 use Rattle.answer.specs.declared.Verdict.the-variants as verdict
-use Rattle.call.specs.Refusals.{whereAccepted, inRange}
+use Rattle.entry.specs.Range.{inRange}
+use Rattle.answer.specs.Verdicts.{whereAccepted}
 use Rattle.schedule.specs.Codes.{operands}
 
 abbrev pub pairBytes : ℕ → ℕ → List ℕ

@@ -1,7 +1,7 @@
 // The codes of 01's table of entries, as a schedule has them.
 ghost use mathlib.Core.Path.{_≡_};
 ghost use Rattle.schedule.specs.Codes.{operands, entryOf};
-use call::entry::Entry;
+use entry::Entry;
 
 // How many operands a code has; none where it is no entry's.
 pub(crate) fn operands(code: u32) -> u32

@@ -4,7 +4,7 @@ ghost use Prim.Native.Nat.{_≤_};
 ghost use Rattle.schedule.specs.Read.{why, setUpOf, tested, entryAt, threadAt, secondAt};
 use crate::code;
 use answer::Verdict;
-use call::entry::Entry;
+use entry::Entry;
 use numbers::Reading;
 use refusal::Refusal;
 
@@ -64,7 +64,7 @@ pub fn set_up(s: &[u8]) -> SetUpReading
 fn tested(threads: u32, nodes: u32, next: usize) -> SetUpReading
     ensures { λ r. ⌜ r ≡ tested threads nodes next ⌝ }
 {
-    let verdict = call::entry::in_range(threads, nodes);
+    let verdict = entry::in_range(threads, nodes);
     match verdict {
         Verdict::Refused(refusal) => SetUpReading::Refused { refusal },
         Verdict::Accepted => SetUpReading::SetUp {

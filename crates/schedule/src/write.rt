@@ -55,7 +55,7 @@ fn triple(buf: &mut [u8], first: u32, second: u32, third: u32) -> Writing
 pub fn set_up(buf: &mut [u8], threads: u32, nodes: u32) -> Writing
     ensures { λ r. ⌜ (r ≡ setUpWriting threads nodes (now (buf .entry))) × (now (buf .exit) ≡ setUpWritten threads nodes (now (buf .entry))) ⌝ }
 {
-    let verdict = call::entry::in_range(threads, nodes);
+    let verdict = entry::in_range(threads, nodes);
     match verdict {
         Verdict::Refused(refusal) => Writing::Refused { refusal },
         Verdict::Accepted => pair(buf, threads, nodes),
