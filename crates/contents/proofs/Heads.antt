@@ -20,7 +20,7 @@ use Rattle.memory.specs.Memory.{cellAt}
 use Rattle.place.specs.declared.RunStep.{RunStep}
 use Rattle.running.specs.Running.{walkTo}
 use Rattle.machine.specs.declared.Machine.{Machine}
-use Rattle.machine.specs.State.{noItem}
+use Rattle.machine.specs.State.{noItem, itemAt}
 use Rattle.contents.proofs.Chains.{chain-element, mapped-element}
 use Rattle.contents.specs.Contents.{walked, reached, headToBe, leadsTo, oldTailHead, announcedHead, abstractHead, chainAfter, itemsAfter, contents}
 
@@ -50,7 +50,7 @@ pub one-more-item : (m : Machine) (node i : ℕ) (buf out : List ℕ) {n : ℕ}
     → i < length buf
     → out ≡ paste buf 0 (itemsAfter m node) i
     → n ≡ walked (m .links) node (suc i)
-    → set out i (getD (m .items) (n % 512) noItem .value) ≡ paste buf 0 (itemsAfter m node) (i + 1)
+    → set out i (itemAt m n .value) ≡ paste buf 0 (itemsAfter m node) (i + 1)
 one-more-item m node i buf out {n} h k e w =
     let value : ℕ → ℕ = λ x. getD (m .items) (x % 512) noItem .value in
     let chain : List ℕ = chainAfter 512 (m .links) node in

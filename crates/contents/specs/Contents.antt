@@ -1,9 +1,8 @@
 -- 01, "Contents and order of effect": the abstract head, the items of the chain after it, and the depth.
-use Prim.Native.Nat.{ℕ, zero, suc, _-_, _%_}
+use Prim.Native.Nat.{ℕ, zero, suc, _-_}
 use mathlib.Core.Bool.{Bool, false, cond}
 use mathlib.Core.List.{List, [], _∷_, map}
 use lib.Dec.{eqb}
-use lib.ListN.{getD}
 use Rattle.cells.specs.declared.Tail.{Tail}
 use Rattle.cells.specs.declared.Head.{Head}
 use Rattle.cells.specs.declared.Head.the-variants.{Plain, Announced}
@@ -19,7 +18,7 @@ use Rattle.place.specs.declared.RunStep.{RunStep}
 use Rattle.place.specs.declared.RunStep.the-variants.{A1, A2, A3, A4, A5, A6, A7, A8}
 use Rattle.running.specs.Running.{walkTo}
 use Rattle.machine.specs.declared.Machine.{Machine}
-use Rattle.machine.specs.State.{noItem}
+use Rattle.machine.specs.State.{itemAt}
 use Rattle.pairing.specs.Pairing.{nodeBehind}
 
 -- the node that n links lead to from a node; a walk that meets no link stays, which none of a reachable machine does
@@ -74,7 +73,7 @@ chainAfter zero links x = []
 chainAfter (suc n) links x = ifLinked (cellAt links x .link) (chainAfter n links (nodeBehind (cellAt links x .link) x))
 
 abbrev pub itemsAfter : Machine → ℕ → List ℕ
-itemsAfter m x = map (λ n. getD (m .items) (n % 512) noItem .value) (chainAfter 512 (m .links) x)
+itemsAfter m x = map (λ n. itemAt m n .value) (chainAfter 512 (m .links) x)
 
 -- contents are the items of the chain after the abstract head
 unfoldable pub contents : Machine → List ℕ

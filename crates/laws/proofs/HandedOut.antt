@@ -7,7 +7,6 @@ use mathlib.Core.Logic.{inl, inr}
 use native.Mathlib.Omega.{arith}
 use lib.Dec.{eqb}
 use native.Mathlib.Nat.{mod-eq-of-lt}
-use lib.ListN.{getD}
 use Rattle.refusal.specs.declared.Refusal.the-variants.{NotOwnFuture}
 use Rattle.tally.specs.Tally.{up}
 use Rattle.next.specs.declared.Used.{Used}
@@ -23,7 +22,7 @@ use Rattle.machine.specs.declared.Machine.{Machine}
 use Rattle.machine.specs.declared.Told.{Told}
 use Rattle.entry.specs.declared.Entry.{Entry}
 use Rattle.entry.specs.declared.Entry.the-variants.{Enqueue, Dequeue, FutureEnqueue, FutureDequeue, Evaluate, Step, Run}
-use Rattle.machine.specs.State.{rowAt, noFuture}
+use Rattle.machine.specs.State.{rowAt, futureAt}
 use Rattle.machine.specs.Steps.{stepOf, isMore, oneMore, advance}
 use Rattle.machine.specs.Entries.{refusing, decided, linkedBehind, deferEnqueue, deferDequeue, setOff, startEnqueue, startDequeue, evaluateWaiting, evaluateOwn, evaluateKnown, enqueue, dequeue, futureEnqueue, futureDequeue, evaluate, run, apply}
 use Rattle.laws.specs.HandingOut.{AtMostOne, HandsOut}
@@ -123,6 +122,6 @@ entry-hands-out-at-most-one m (Enqueue t v) = decided-hands-out m _ _ (enqueue-h
 entry-hands-out-at-most-one m (Dequeue t) = decided-hands-out m _ _ (dequeue-hands-out m (t % 8))
 entry-hands-out-at-most-one m (FutureEnqueue t v) = decided-hands-out m _ _ (record { nodes = inr refl; futures = inr refl; announcements = inl refl })
 entry-hands-out-at-most-one m (FutureDequeue t) = decided-hands-out m _ _ (record { nodes = inl refl; futures = inr refl; announcements = inl refl })
-entry-hands-out-at-most-one m (Evaluate t f) = decided-hands-out m _ _ (known-hands-out m t f (getD (m .futures) (f % 512) noFuture))
+entry-hands-out-at-most-one m (Evaluate t f) = decided-hands-out m _ _ (known-hands-out m t f (futureAt m f))
 entry-hands-out-at-most-one m (Step t) = run-hands-out m t 1
 entry-hands-out-at-most-one m (Run t n) = run-hands-out m t n

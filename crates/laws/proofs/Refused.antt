@@ -23,7 +23,7 @@ use Rattle.machine.specs.declared.Machine.{Machine}
 use Rattle.machine.specs.declared.Told.{Told}
 use Rattle.entry.specs.declared.Entry.{Entry}
 use Rattle.entry.specs.declared.Entry.the-variants.{Enqueue, Dequeue, FutureEnqueue, FutureDequeue, Evaluate, Step, Run}
-use Rattle.machine.specs.State.{rowAt, noFuture}
+use Rattle.machine.specs.State.{rowAt, noFuture, futureAt}
 use Rattle.machine.specs.Pairing.{pairing, settled}
 use Rattle.pairing.specs.declared.Cursor.{Cursor}
 use Rattle.pairing.specs.declared.Supply.the-variants.{Batch, Dequeues}
@@ -114,7 +114,7 @@ entry-honest m (Enqueue t v) = decided-honest m _ _ (accepted-honest m (telling 
 entry-honest m (Dequeue t) = decided-honest m _ _ (accepted-honest m (telling (startDequeue m (t % 8)) Started) refl)
 entry-honest m (FutureEnqueue t v) = decided-honest m _ _ (accepted-honest m (telling (deferEnqueue m (t % 8) (record { value = v })) (answer.Future (nextFuture (m .used)))) refl)
 entry-honest m (FutureDequeue t) = decided-honest m _ _ (accepted-honest m (telling (deferDequeue m (t % 8)) (answer.Future (nextFuture (m .used)))) refl)
-entry-honest m (Evaluate t f) = decided-honest m _ _ (known-honest m t f (getD (m .futures) (f % 512) noFuture))
+entry-honest m (Evaluate t f) = decided-honest m _ _ (known-honest m t f (futureAt m f))
 entry-honest m (Step t) = run-honest m t 1
 entry-honest m (Run t n) = run-honest m t n
 

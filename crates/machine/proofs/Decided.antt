@@ -1,4 +1,4 @@
--- One verdict decides an entry: `apply` is the refusal that call's `verdict` gives, or what the accepted entry does. The entries' definitions test
+-- One verdict decides an entry: `apply` is the refusal that refuse's `verdict` gives, or what the accepted entry does. The entries' definitions test
 -- one after the other and start in between; a test that accepts changes nothing, so the first that refuses can be found before.
 use Prim.Native.Nat.{ℕ, _%_}
 use mathlib.Core.Bool.{Bool, true, false, cond}
@@ -62,12 +62,17 @@ entry-decided m (Evaluate t f) =
 entry-decided m (Step t) = refl
 entry-decided m (Run t n) = refl
 
--- the code's values by name, in its order: thread and row, future and what it holds, the verdict u on them
-module _ (m : Machine) (e : Entry) {t f : ℕ} {r : Row} {x : Future} {u : Verdict} {z : Told} where
-  pub refused-at-once : {no : Refusal} → t ≡ threadOf e → r ≡ rowAt m (t % 8) → f ≡ futureOf e → x ≡ futureAt m f → u ≡ verdict e (m .threads) (m .nodes) (m .used) r x → u ≡ Refused no → z ≡ refusing m no → z ≡ apply m e
-  unfolding decided
-  refused-at-once e1 e2 e3 e4 e5 e6 e7 = e7 ∙ (ap (λ (w : Verdict). decided w m (accepted m (t % 8) e (x .outcome))) (sym e6 ∙ e5) ∙ simp (e4, e3, e2, e1) (sym (entry-decided m e)))
-
-  pub accepted-then : t ≡ threadOf e → r ≡ rowAt m (t % 8) → f ≡ futureOf e → x ≡ futureAt m f → u ≡ verdict e (m .threads) (m .nodes) (m .used) r x → u ≡ Accepted → z ≡ accepted m (t % 8) e (x .outcome) → z ≡ apply m e
-  unfolding decided
-  accepted-then e1 e2 e3 e4 e5 e6 e7 = e7 ∙ (ap (λ (w : Verdict). decided w m (accepted m (t % 8) e (x .outcome))) (sym e6 ∙ e5) ∙ simp (e4, e3, e2, e1) (sym (entry-decided m e)))
+-- the code's values by name, in its order: thread and row, future and what it holds, the verdict u on them, which turns out to be d
+pub by-verdict : (m : Machine) (e : Entry) (d : Verdict) {t f : ℕ} {r : Row} {x : Future} {u : Verdict} {z : Told}
+    → t ≡ threadOf e
+    → r ≡ rowAt m (t % 8)
+    → f ≡ futureOf e
+    → x ≡ futureAt m f
+    → u ≡ verdict e (m .threads) (m .nodes) (m .used) r x
+    → u ≡ d
+    → z ≡ decided d m (accepted m (t % 8) e (x .outcome))
+    → z ≡ apply m e
+by-verdict m e d {t} {x = x} e1 e2 e3 e4 e5 e6 e7 =
+    e7
+    ∙ ap (λ (w : Verdict). decided w m (accepted m (t % 8) e (x .outcome))) (sym e6 ∙ e5)
+    ∙ simp (e4, e3, e2, e1) (sym (entry-decided m e))

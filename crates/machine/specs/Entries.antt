@@ -2,7 +2,7 @@
 use Prim.Native.Nat.{ℕ, _%_}
 use mathlib.Core.Bool.{true, false, cond}
 use lib.Dec.{eqb}
-use lib.ListN.{getD, set}
+use lib.ListN.{set}
 use Rattle.refusal.specs.declared.Refusal.{Refusal}
 use Rattle.refusal.specs.declared.Refusal.the-variants.{NotOwnFuture}
 use Rattle.cells.specs.declared.Link.the-variants.{To}
@@ -26,7 +26,7 @@ use Rattle.machine.specs.declared.Machine.{Machine}
 use Rattle.entry.specs.declared.Entry.{Entry}
 use Rattle.entry.specs.declared.Entry.the-variants.{Enqueue, Dequeue, FutureEnqueue, FutureDequeue, Evaluate, Step, Run}
 use Rattle.refuse.specs.declared.Needs.{Needs}
-use Rattle.machine.specs.State.{rowAt, withRow, noFuture}
+use Rattle.machine.specs.State.{rowAt, withRow, futureAt}
 use Rattle.next.specs.Next.{nextNode, nextFuture, nextAnnouncement}
 use Rattle.machine.specs.HandOut.{handOutNode, handOutFuture, handOutAnnouncement}
 use Rattle.refuse.specs.Refusals.{callable, steppable, foreign, lacking, callVerdict, enqueueNeeds, dequeueNeeds, futureEnqueueNeeds, futureDequeueNeeds, evaluateNeeds}
@@ -124,7 +124,7 @@ evaluateKnown m t f x =
     (evaluateOwn m (t % 8) (f % 512) (x .outcome))
 
 unfoldable pub evaluate : Machine → ℕ → ℕ → Told
-evaluate m t f = decided (callable t (m .threads) (rowAt m (t % 8) .place)) m (evaluateKnown m t f (getD (m .futures) (f % 512) noFuture))
+evaluate m t f = decided (callable t (m .threads) (rowAt m (t % 8) .place)) m (evaluateKnown m t f (futureAt m f))
 
 -- code 7, Run t n: as Step, up to n steps, stopping when the call ends
 unfoldable pub run : Machine → ℕ → ℕ → Told
@@ -143,7 +143,7 @@ apply m (Evaluate t f) = evaluate m t f
 apply m (Step t) = step m t
 apply m (Run t n) = run m t n
 
--- how the code goes: one verdict (call's `verdict`), then what an accepted entry does, which can't refuse; proofs/Decided.antt shows that this
+-- how the code goes: one verdict (refuse's `verdict`), then what an accepted entry does, which can't refuse; proofs/Decided.antt shows that this
 -- is `apply`. i is the thread's number, o the outcome of the future that Evaluate names.
 unfoldable pub asked : Machine → ℕ → ℕ → Outcome → Told
 asked m i f outcome.Waiting = telling (setOff m i f) answer.Started

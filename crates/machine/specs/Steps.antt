@@ -1,5 +1,5 @@
 -- 01, "Steps": one step is one access; and Run, a fold of steps with its count.
-use Prim.Native.Nat.{ℕ, zero, suc, _%_}
+use Prim.Native.Nat.{ℕ, zero, suc}
 use mathlib.Core.Bool.{Bool, true, false, cond}
 use lib.ListN.{getD}
 use Rattle.cells.specs.declared.Link.the-variants.{To}
@@ -18,7 +18,7 @@ use Rattle.machine.specs.declared.Told.{Told}
 use Rattle.machine.specs.declared.Machine.{Machine}
 use Rattle.machine.specs.declared.engine.Ran.{Ran}
 use Rattle.pairing.specs.declared.Supply.the-variants.{Batch, Dequeues}
-use Rattle.machine.specs.State.{memoryOf, withMemory, rowAt, withRow, noItem}
+use Rattle.machine.specs.State.{memoryOf, withMemory, rowAt, withRow, itemAt}
 use Rattle.machine.specs.Pairing.{settled}
 
 -- the request of the announcement that a thread runs
@@ -49,7 +49,7 @@ abbrev pub tell : Machine → ℕ → ℕ → After → Told
 tell m i steps (afterwards.On p) = record { machine = m; answer = More; steps = steps }
 tell m i steps afterwards.Ok = record { machine = m; answer = Ok; steps = steps }
 tell m i steps afterwards.Empty = record { machine = m; answer = Empty; steps = steps }
-tell m i steps (afterwards.Item n) = record { machine = m; answer = Item (getD (m .items) (n % 512) noItem); steps = steps }
+tell m i steps (afterwards.Item n) = record { machine = m; answer = Item (itemAt m n); steps = steps }
 tell m i steps (afterwards.Pair from) = settled m i steps (record { at = from; supply = Batch (To (rowAt m i .first)) false })
 tell m i steps (afterwards.PairDequeues from taken) = settled m i steps (record { at = from; supply = Dequeues taken })
 

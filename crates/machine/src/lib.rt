@@ -106,8 +106,8 @@ impl Machine {
         }
     }
 
-    // One element of the machine. A function that indexes an array of its own machine holds that machine a
-    // second time; one that reads by these and hands the machine on does not.
+    // Reads of one element. To the checker a function that indexes an array of its own machine holds the
+    // machine a second time; one that reads through these and hands the machine on does not.
     pub(crate) fn row_at(self, thread: usize) -> Row
         requires { ⌜ thread < 8 ⌝ }
         ensures { λ r. ⌜ r ≡ rowAt self thread ⌝ }

@@ -3,7 +3,7 @@
 -- whether the batch is linked by its old tail, or, while that is unset, by the link of the tail: the tail has not passed the batch then, and
 -- a batch is linked no further on than at the tail, so if it is linked, it is linked behind the tail. No walk to the new head runs off the end,
 -- and the contents are the items of the chain behind it, up to its last node.
-use Prim.Native.Nat.{ℕ, zero, suc, _+_, _-_, _%_, _<_}
+use Prim.Native.Nat.{ℕ, zero, suc, _+_, _-_, _<_}
 use mathlib.Core.Path.{_≡_, refl, sym, ap, _∙_}
 use mathlib.Core.Bool.{Bool, true, false, cond, false≢true}
 use mathlib.Core.List.{List, map}
@@ -31,7 +31,7 @@ use Rattle.place.specs.declared.RunStep.the-variants.{A1, A2, A3, A4, A5, A6, A
 use Rattle.running.specs.Running.{walkTo}
 use Rattle.row.specs.Row.{noRow}
 use Rattle.machine.specs.declared.Machine.{Machine}
-use Rattle.machine.specs.State.{noItem}
+use Rattle.machine.specs.State.{itemAt}
 use Rattle.contents.specs.Contents.{reached, headToBe, leadsTo, oldTailHead, headNode, abstractHead, chainAfter, contents}
 use Rattle.order.proofs.Ghost.{Ghost}
 use Rattle.order.specs.Promises.{requestIn, headOrOld, EveryLinkLeadsOn}
@@ -199,6 +199,6 @@ module _ (m : Machine) (g : Ghost) (i : Inv (sharedOf m) g) where
   pub last-link-is-none : (j n : ℕ) → At (g .chain) j n → length (g .chain) ≡ suc j → cellAt (m .links) n .link ≡ None
   last-link-is-none j n h e = no-link (cellAt (m .links) n .link) (last-has-none (i .chain .chain) j n h e)
 
-  pub contents-are-the-items-behind : contents m ≡ map (λ n. getD (m .items) (n % 512) noItem .value) (drop (suc (headPosition m g)) (g .chain))
+  pub contents-are-the-items-behind : contents m ≡ map (λ n. itemAt m n .value) (drop (suc (headPosition m g)) (g .chain))
   unfolding contents
-  contents-are-the-items-behind = ap (map (λ n. getD (m .items) (n % 512) noItem .value)) chain-behind-the-head
+  contents-are-the-items-behind = ap (map (λ n. itemAt m n .value)) chain-behind-the-head

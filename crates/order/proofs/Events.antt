@@ -30,7 +30,7 @@ use Rattle.answer.specs.Verdicts.{whereAccepted}
 use Rattle.refuse.proofs.Accepted.{Left, callable-is-below, callable-is-idle, nothing-lacks, call-accepted}
 use Rattle.machine.specs.declared.Machine.{Machine}
 use Rattle.machine.specs.declared.Told.{Told}
-use Rattle.machine.specs.State.{rowAt, noFuture}
+use Rattle.machine.specs.State.{rowAt, noFuture, futureAt}
 use Rattle.machine.specs.Steps.{stepOf, isMore, oneMore, advance}
 use Rattle.machine.specs.Entries.{decided, refusing, linkedBehind, deferEnqueue, deferDequeue, setOff, startEnqueue, startDequeue, evaluateWaiting, evaluateOwn, evaluateKnown, evaluate, enqueue as enqueueEntry, dequeue as dequeueEntry, futureEnqueue, futureDequeue, run, apply}
 use Rattle.laws.proofs.HandedOut.{futures-in-order}
@@ -45,9 +45,6 @@ pub record Sized (m : Machine) : Type 0 where
   pub futures : length (m .futures) ≡ 512
   pub room : m .used .futures ≤ 512
 
-abbrev pub futureIn : Machine → ℕ → Future
-futureIn m f = getD (m .futures) (f % 512) noFuture
-
 -- what an event finds
 pub record Free (m : Machine) (i : ℕ) : Type 0 where
   pub small : i < 8
@@ -60,18 +57,18 @@ pub record RoomToDefer (m : Machine) (i : ℕ) : Type 0 where
 
 pub record OwnFuture (m : Machine) (i f : ℕ) : Type 0 where
   pub handedOut : f < m .used .futures
-  pub owner : futureIn m f .owner ≡ i
+  pub owner : futureAt m f .owner ≡ i
 
 pub record RoomToSetOff (m : Machine) (i f : ℕ) : Type 0 where
   pub free : Free m i
   pub own : OwnFuture m i f
-  pub waits : futureIn m f .outcome ≡ Waiting
+  pub waits : futureAt m f .outcome ≡ Waiting
   pub announcement : rowAt m i .tally .enqueues ≢ 0 → m .used .announcements < 64
 
 pub record DoneFuture (m : Machine) (i f : ℕ) : Type 0 where
   pub free : Free m i
   pub own : OwnFuture m i f
-  pub done : futureIn m f .outcome ≢ Waiting
+  pub done : futureAt m f .outcome ≢ Waiting
 
 abbrev pub Finds : Machine → Event → Type 0
 Finds m (EnqueueStarts i v) = Free m i × (rowAt m i .count ≡ 0) × (m .used .nodes < m .nodes)
@@ -134,7 +131,7 @@ module _ (m : Machine) (sized : Sized m) (i : ℕ) (free : Free m i) (left : m .
     row-is : rowAt m′ i ≡ row
     row-is = put-here m m′ i row rows (sized .rows) (free .small)
 
-    future-is : futureIn m′ (nextFuture (m .used)) ≡ record { owner = i; enqueue = enqueue; outcome = Waiting }
+    future-is : futureAt m′ (nextFuture (m .used)) ≡ record { owner = i; enqueue = enqueue; outcome = Waiting }
     future-is =
         ap (λ (l : List Future). getD l (nextFuture (m .used) % 512) noFuture) futures
         ∙ ap (λ (k : ℕ). getD (set (m .futures) (nextFuture (m .used)) (record { owner = i; enqueue = enqueue; outcome = Waiting })) k noFuture) (let z : nextFuture (m .used) % 512 ≡ nextFuture (m .used) = omega arith in z)
@@ -186,7 +183,7 @@ module _ (m : Machine) (sized : Sized m) (i : ℕ) (free : Free m i) where
           let ne = eqb-false _ 0 e in
           two-made m (DequeueDeferred i) (BatchSetOff i (nextFuture (m .used))) (deferring _ left (is-some _ ne)) (set-off ne)
 
-  own-made : (f : ℕ) → OwnFuture m i f → (o : Outcome) → futureIn m f .outcome ≡ o → Made m (evaluateOwn m i f o .machine) (evaluateOwnEvents m i f o)
+  own-made : (f : ℕ) → OwnFuture m i f → (o : Outcome) → futureAt m f .outcome ≡ o → Made m (evaluateOwn m i f o .machine) (evaluateOwnEvents m i f o)
   unfolding evaluateOwn evaluateWaiting
   own-made f own outcome.Waiting e =
       decided-made (lacking (evaluateNeeds (rowAt m i)) (m .used) (m .nodes) (rowAt m i .count)) m _ _
@@ -213,21 +210,21 @@ module _ (m : Machine) (sized : Sized m) where
   small : (t : ℕ) → t % 8 < 8
   small t = omega arith
 
-  known-made : (t f : ℕ) → t < 8 → Free m (t % 8) → Made m (evaluateKnown m t f (futureIn m f) .machine) (evaluateEvents m t f (futureIn m f))
+  known-made : (t f : ℕ) → t < 8 → Free m (t % 8) → Made m (evaluateKnown m t f (futureAt m f) .machine) (evaluateEvents m t f (futureAt m f))
   unfolding evaluateKnown
-  known-made t f lt free = by (ltb f (m .used .futures)) refl (eqb (futureIn m f .owner) t) refl
+  known-made t f lt free = by (ltb f (m .used .futures)) refl (eqb (futureAt m f .owner) t) refl
     where
-      by : (a : Bool) → ltb f (m .used .futures) ≡ a → (b : Bool) → eqb (futureIn m f .owner) t ≡ b
-          → Made m (cond (cond a (not b) true) (refusing m NotOwnFuture) (evaluateOwn m (t % 8) (f % 512) (futureIn m f .outcome)) .machine)
-          (cond (cond a (not b) true) [] (evaluateOwnEvents m (t % 8) (f % 512) (futureIn m f .outcome)))
+      by : (a : Bool) → ltb f (m .used .futures) ≡ a → (b : Bool) → eqb (futureAt m f .owner) t ≡ b
+          → Made m (cond (cond a (not b) true) (refusing m NotOwnFuture) (evaluateOwn m (t % 8) (f % 512) (futureAt m f .outcome)) .machine)
+          (cond (cond a (not b) true) [] (evaluateOwnEvents m (t % 8) (f % 512) (futureAt m f .outcome)))
       by false e b q = none-made m
       by true e false q = none-made m
       by true e true q =
           let handed : f < m .used .futures = ltb-true f (m .used .futures) e in
-          let here : futureIn m (f % 512) ≡ futureIn m f = ap (λ (k : ℕ). getD (m .futures) k noFuture) (let z : f % 512 % 512 ≡ f % 512 = omega arith in z) in
+          let here : futureAt m (f % 512) ≡ futureAt m f = ap (λ (k : ℕ). getD (m .futures) k noFuture) (let z : f % 512 % 512 ≡ f % 512 = omega arith in z) in
           own-made m sized (t % 8) free (f % 512)
           (record { handedOut = omega (arith, sized .room); owner = ap (λ (x : Future). x .owner) here ∙ eqb-true _ t q ∙ (let z : t ≡ t % 8 = omega arith in z) })
-          (futureIn m f .outcome) (ap (λ (x : Future). x .outcome) here)
+          (futureAt m f .outcome) (ap (λ (x : Future). x .outcome) here)
 
   call-made : (t : ℕ) (n : Needs) (x : Told) (es : List Event)
       → (Free m (t % 8) → Left n (m .used) (m .nodes) (rowAt m (t % 8) .count) → Made m (x .machine) es)

@@ -15,13 +15,13 @@ use Rattle.place.specs.declared.After.the-variants as afterwards
 use Rattle.answer.specs.declared.Outcome.the-variants.{Waiting}
 use Rattle.pairing.specs.declared.Cursor.{Cursor}
 use Rattle.machine.specs.declared.Machine.{Machine}
-use Rattle.machine.specs.State.{rowAt}
+use Rattle.machine.specs.State.{rowAt, futureAt}
 use Rattle.machine.specs.Steps.{hop, stepOf}
 use Rattle.order.specs.PairingReads.{turnsFrom, batchCursor, dequeuesCursor}
 use Rattle.order.specs.Order.{Called, Effect, Given, Story, of, gives}
 use Rattle.order.specs.PlainQueue.{Ran, ran, Stands}
 use Rattle.order.specs.Outcomes.{outcomeOf}
-use Rattle.order.proofs.Events.{futureIn, OwnFuture}
+use Rattle.order.proofs.Events.{OwnFuture}
 use Rattle.order.proofs.Ghost.{Ghost, pendingOf}
 use Rattle.order.proofs.Invariant.{NotLinked}
 use Rattle.order.proofs.PairingResults.{outcomes}
@@ -31,7 +31,7 @@ use Rattle.order.proofs.Orderly.{NotIn, BatchCall}
 pub record Held (m : Machine) (t j f : ℕ) : Type 0 where
   pub place : getD (rowAt m t .pending) j 0 ≡ f
   pub own : OwnFuture m t f
-  pub waits : futureIn m f .outcome ≡ Waiting
+  pub waits : futureAt m f .outcome ≡ Waiting
 
 pub record PendingFutures (m : Machine) (g : Ghost) (s : Story) (t : ℕ) : Type 0 where
   pub calls : of s t .calls ≡ pendingOf g t
@@ -57,11 +57,11 @@ futureGiven t f r now = record { thread = t; future = some f; began = none; resu
 pub record Futured (m : Machine) (g : Ghost) (s : Story) : Type 0 where
   pub threads : length (s .threads) ≡ 8
   pub each : (t : ℕ) → t < 8 → PendingFutures m g s t
-  pub waiting : (f : ℕ) → f < m .used .futures → futureIn m f .outcome ≡ Waiting → (futureIn m f .owner < 8) × In (of s (futureIn m f .owner) .futures) f
-  pub done : (f : ℕ) (r : Result ℕ) → f < m .used .futures → futureIn m f .outcome ≡ outcomeOf r → Stands (s .order) (futureGiven (futureIn m f .owner) f r (s .clock))
+  pub waiting : (f : ℕ) → f < m .used .futures → futureAt m f .outcome ≡ Waiting → (futureAt m f .owner < 8) × In (of s (futureAt m f .owner) .futures) f
+  pub done : (f : ℕ) (r : Result ℕ) → f < m .used .futures → futureAt m f .outcome ≡ outcomeOf r → Stands (s .order) (futureGiven (futureAt m f .owner) f r (s .clock))
   pub given : (j : ℕ) (x : Given) → At (s .given) j x → Stands (s .order) x
   pub rows : (j a f : ℕ) (x : Effect) → At (s .order) j x → At (x .call .futures) a f
-      → OwnFuture m (x .call .thread) f × ((futureIn m f .outcome ≢ Waiting) ⊎ BatchInCall m s (x .call))
+      → OwnFuture m (x .call .thread) f × ((futureAt m f .outcome ≢ Waiting) ⊎ BatchInCall m s (x .call))
   pub onceEach : (j k a b f : ℕ) (x y : Effect) → At (s .order) j x → At (s .order) k y → At (x .call .futures) a f → At (y .call .futures) b f → (j ≡ k) × (a ≡ b)
   -- a batch with an announcement that has not been linked is still going on
   pub going : (a : ℕ) (c : Called) → NotLinked g a → At (s .announced) a c → BatchInCall m s c

@@ -18,10 +18,10 @@ use Rattle.answer.specs.declared.Future.{Future}
 use Rattle.answer.specs.declared.Outcome.the-variants.{Waiting}
 use Rattle.next.specs.Next.{nextFuture}
 use Rattle.machine.specs.declared.Machine.{Machine}
-use Rattle.machine.specs.State.{rowAt, noFuture}
+use Rattle.machine.specs.State.{rowAt, noFuture, futureAt}
 use Rattle.laws.proofs.HandedOut.{futures-in-order}
 use Rattle.order.specs.Order.{Remembered, Story, of}
-use Rattle.order.proofs.Events.{futureIn, OwnFuture}
+use Rattle.order.proofs.Events.{OwnFuture}
 use Rattle.order.proofs.Ghost.{Ghost, pendingOf}
 use Rattle.order.proofs.Outcomes.{result-waits-not}
 use Rattle.order.proofs.Reached.{Holds}
@@ -47,12 +47,12 @@ module _ (m : Machine) (g : Ghost) (s : Story) (holds : Holds m g) (h : Futured 
   before : PendingFutures m g s i
   before = h .each i (p .small)
 
-  old-future : (f : ℕ) → f < next → futureIn m′ f ≡ futureIn m f
+  old-future : (f : ℕ) → f < next → futureAt m′ f ≡ futureAt m f
   old-future f lt =
       ap (λ (l : List Future). getD l (f % 512) noFuture) futures
       ∙ getD-set-other (m .futures) (nextFuture (m .used)) (f % 512) x noFuture (λ e. omega (arith, number))
 
-  new-future : (f : ℕ) → f ≡ next → futureIn m′ f ≡ x
+  new-future : (f : ℕ) → f ≡ next → futureAt m′ f ≡ x
   new-future f e =
       ap (λ (l : List Future). getD l (f % 512) noFuture) futures
       ∙ ap (λ (k : ℕ). getD (set (m .futures) (nextFuture (m .used)) x) k noFuture) (let z : f % 512 ≡ nextFuture (m .used) = omega (arith, number) in z)
@@ -119,7 +119,7 @@ module _ (m : Machine) (g : Ghost) (s : Story) (holds : Holds m g) (h : Futured 
   handed-out : (f : ℕ) → f < m′ .used .futures → (f < next) ⊎ (f ≡ next)
   handed-out f lt = elim (decLt f next) [ yes l ↦ inl l | no ge ↦ inr (omega (arith, one-more)) ]
 
-  waiting-now : (f : ℕ) → OwnFuture m′ i f → futureIn m′ f .outcome ≡ Waiting → In (of s′ i .futures) f
+  waiting-now : (f : ℕ) → OwnFuture m′ i f → futureAt m′ f .outcome ≡ Waiting → In (of s′ i .futures) f
   waiting-now f own e =
       subst (λ (l : List ℕ). In l f) (sym futures-are)
       (⊎-elim {C = In (of s i .futures ++ (next ∷ [])) f}

@@ -31,13 +31,13 @@ use Rattle.answer.specs.declared.Outcome.the-variants.{Waiting}
 use Rattle.next.specs.Next.{nextNode, nextFuture, nextAnnouncement}
 use Rattle.answer.specs.Answer.{answered}
 use Rattle.machine.specs.declared.Machine.{Machine}
-use Rattle.machine.specs.State.{rowAt, freshMachine}
+use Rattle.machine.specs.State.{rowAt, freshMachine, futureAt}
 use Rattle.machine.specs.Entries.{linkedBehind, deferEnqueue, deferDequeue}
 use Rattle.order.specs.Events.{Event, EnqueueStarts, DequeueStarts, EnqueueDeferred, DequeueDeferred, BatchSetOff, FutureAsked, StepTaken, does}
 use Rattle.order.specs.Order.{Called, Given, Remembered, Story, of, gives, defers, pendingBatch, single, happens, freshStory, nothingRemembered, nowIn, alsoPending}
 use Rattle.order.specs.PlainQueue.{Stands}
 use Rattle.order.specs.Outcomes.{outcomeOf}
-use Rattle.order.proofs.Events.{futureIn, OwnFuture, Free, Finds}
+use Rattle.order.proofs.Events.{OwnFuture, Free, Finds}
 use Rattle.order.proofs.Ghost.{Ghost, pendingOf, ghostDoes, freshGhost}
 use Rattle.order.proofs.SettingOff.{set-off-either}
 use Rattle.order.proofs.Outcomes.{waits-or-done, given-alone}
@@ -144,14 +144,14 @@ module _ (m : Machine) (g : Ghost) (s : Story) (holds : Holds m g) (h : Futured 
         (withDequeue (rowAt m i) (nextFuture (m .used))) refl refl refl refl refl refl
 
   -- a result is given
-  module _ (f : ℕ) (own : OwnFuture m i f) (done : futureIn m f .outcome ≢ Waiting) where
-    asked-stands : (j : ℕ) (x : Given) → At (gives i (some f) none (s .clock) (answered (futureIn m f .outcome))) j x → Stands (s .order) x
-    asked-stands j x q = ⊎-elim {C = Stands (s .order) x} (λ e. absurd (done e)) (λ w. stands (w .0) (w .1)) (waits-or-done (futureIn m f .outcome))
+  module _ (f : ℕ) (own : OwnFuture m i f) (done : futureAt m f .outcome ≢ Waiting) where
+    asked-stands : (j : ℕ) (x : Given) → At (gives i (some f) none (s .clock) (answered (futureAt m f .outcome))) j x → Stands (s .order) x
+    asked-stands j x q = ⊎-elim {C = Stands (s .order) x} (λ e. absurd (done e)) (λ w. stands (w .0) (w .1)) (waits-or-done (futureAt m f .outcome))
       where
-        stands : (r : Result ℕ) → futureIn m f .outcome ≡ outcomeOf r → Stands (s .order) x
+        stands : (r : Result ℕ) → futureAt m f .outcome ≡ outcomeOf r → Stands (s .order) x
         stands r e =
             let w = h .done f r (own .handedOut) e in
-            subst (Stands (s .order)) (sym (given-alone i (some f) none (s .clock) (futureIn m f .outcome) r e j x q))
+            subst (Stands (s .order)) (sym (given-alone i (some f) none (s .clock) (futureAt m f .outcome) r e j x q))
             (record { row = w .row; there = w .there; thread = w .thread ∙ own .owner; call = w .call; before = w .before; result = w .result })
 
     future-asked : Futured m g (happens m s (FutureAsked i f))

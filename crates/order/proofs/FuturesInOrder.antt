@@ -13,9 +13,10 @@ use Rattle.answer.specs.declared.Outcome.the-variants.{Waiting}
 use Rattle.machine.specs.declared.Machine.{Machine}
 use Rattle.order.specs.Order.{Called, Effect, Given, Story, of}
 use Rattle.order.specs.PlainQueue.{Ran, ran, Stands}
-use Rattle.order.proofs.Events.{futureIn, OwnFuture}
+use Rattle.order.proofs.Events.{OwnFuture}
 use Rattle.order.proofs.Ghost.{Ghost}
 use Rattle.order.proofs.Futured.{Held, PendingFutures, BatchInCall, Futured, TakesEffect, OrderAfter}
+use Rattle.machine.specs.State.{futureAt}
 
 -- a result still stands where the calls are run as before
 pub stands-on : {order order′ : List Effect} (x : Given) → ((r : Ran) → In (ran order []) r → In (ran order′ []) r) → Stands order x → Stands order′ x
@@ -95,10 +96,10 @@ module _ (m : Machine) (g : Ghost) (s : Story) (h : Futured m g s) where
 
     -- a future of a call that took effect is its thread's own, and done, or the call that its thread is in has it
     pub owned-after : (j a f : ℕ) (y : Effect) → At order′ j y → At (y .call .futures) a f
-        → OwnFuture m (y .call .thread) f × ((futureIn m f .outcome ≢ Waiting) ⊎ BatchInCall m s (y .call))
+        → OwnFuture m (y .call .thread) f × ((futureAt m f .outcome ≢ Waiting) ⊎ BatchInCall m s (y .call))
     owned-after j a f y p q = ⊎-elim (λ e. h .rows j a f y (subst (λ (o : List Effect). At o j y) e p) q) (λ w. new (w .0) (w .1)) after
       where
-        new : (x : Effect) → TakesEffect m s order′ x → OwnFuture m (y .call .thread) f × ((futureIn m f .outcome ≢ Waiting) ⊎ BatchInCall m s (y .call))
+        new : (x : Effect) → TakesEffect m s order′ x → OwnFuture m (y .call .thread) f × ((futureAt m f .outcome ≢ Waiting) ⊎ BatchInCall m s (y .call))
         new x w =
             ⊎-elim (λ v. h .rows (v .0) a f y (v .1) q)
             (λ e.

@@ -16,12 +16,12 @@ use Rattle.row.specs.declared.Row.{Row}
 use Rattle.answer.specs.declared.Future.{Future}
 use Rattle.answer.specs.declared.Outcome.the-variants.{Waiting}
 use Rattle.machine.specs.declared.Machine.{Machine}
-use Rattle.machine.specs.State.{rowAt, noFuture}
+use Rattle.machine.specs.State.{rowAt, noFuture, futureAt}
 use Rattle.order.specs.Order.{Called, Effect, Given, Remembered, Story, of, nothingRemembered}
 use Rattle.order.specs.PlainQueue.{Stands}
 use Rattle.order.specs.Outcomes.{outcomeOf}
 use Rattle.order.proofs.RowPut.{put-here, put-elsewhere}
-use Rattle.order.proofs.Events.{futureIn, OwnFuture}
+use Rattle.order.proofs.Events.{OwnFuture}
 use Rattle.order.proofs.Ghost.{Ghost, pendingOf}
 use Rattle.order.proofs.Invariant.{NotLinked}
 use Rattle.order.proofs.Futured.{Held, PendingFutures, BatchInCall, futureGiven, Futured, OrderAfter}
@@ -71,23 +71,23 @@ module _ {m : Machine} {s : Story} {i : ℕ} {m′ : Machine} {s′ : Story} {ro
 pub record FuturesLeft (m : Machine) (g : Ghost) (s : Story) (i : ℕ) (m′ : Machine) (g′ : Ghost) (s′ : Story) : Type 0 where
   -- those handed out before keep their owners, and stay as they are but for those that waited for thread i; a new one is thread i's
   pub more : m .used .futures ≤ m′ .used .futures
-  pub owners : (f : ℕ) → f < m .used .futures → futureIn m′ f .owner ≡ futureIn m f .owner
-  pub kept : (f : ℕ) → f < m .used .futures → (futureIn m f .owner ≢ i) ⊎ (futureIn m f .outcome ≢ Waiting) → futureIn m′ f ≡ futureIn m f
-  pub new : (f : ℕ) → f < m′ .used .futures → futureIn m′ f .owner ≢ i → f < m .used .futures
+  pub owners : (f : ℕ) → f < m .used .futures → futureAt m′ f .owner ≡ futureAt m f .owner
+  pub kept : (f : ℕ) → f < m .used .futures → (futureAt m f .owner ≢ i) ⊎ (futureAt m f .outcome ≢ Waiting) → futureAt m′ f ≡ futureAt m f
+  pub new : (f : ℕ) → f < m′ .used .futures → futureAt m′ f .owner ≢ i → f < m .used .futures
   -- pending calls: those of the others, and thread i's
   pub others : (u : ℕ) → u ≢ i → pendingOf g′ u ≡ pendingOf g u
   pub mine : PendingFutures m′ g′ s′ i
-  pub waiting : (f : ℕ) → OwnFuture m′ i f → futureIn m′ f .outcome ≡ Waiting → In (of s′ i .futures) f
+  pub waiting : (f : ℕ) → OwnFuture m′ i f → futureAt m′ f .outcome ≡ Waiting → In (of s′ i .futures) f
   -- one that is done was so before, or its result stands
-  pub results : (f : ℕ) (r : Result ℕ) → f < m′ .used .futures → futureIn m′ f .outcome ≡ outcomeOf r
-      → ((f < m .used .futures) × (futureIn m f .outcome ≡ outcomeOf r)) ⊎ Stands (s′ .order) (futureGiven (futureIn m′ f .owner) f r (s′ .clock))
+  pub results : (f : ℕ) (r : Result ℕ) → f < m′ .used .futures → futureAt m′ f .outcome ≡ outcomeOf r
+      → ((f < m .used .futures) × (futureAt m f .outcome ≡ outcomeOf r)) ⊎ Stands (s′ .order) (futureGiven (futureAt m′ f .owner) f r (s′ .clock))
 
 -- what is left of the story, and of the batch that thread i is in: it goes on, or its futures are done and its announcement was linked
 pub record StoryLeft (m : Machine) (g : Ghost) (s : Story) (i : ℕ) (m′ : Machine) (g′ : Ghost) (s′ : Story) : Type 0 where
   pub later : s .clock ≤ s′ .clock
   pub order : OrderAfter m s (s′ .order)
   pub given : (j : ℕ) (x : Given) → At (s′ .given) j x → At (s .given) j x ⊎ Stands (s′ .order) x
-  pub ended : (c : Called) → BatchInCall m s c → c .thread ≡ i → (a f : ℕ) → At (c .futures) a f → (futureIn m′ f .outcome ≢ Waiting) ⊎ BatchInCall m′ s′ c
+  pub ended : (c : Called) → BatchInCall m s c → c .thread ≡ i → (a f : ℕ) → At (c .futures) a f → (futureAt m′ f .outcome ≢ Waiting) ⊎ BatchInCall m′ s′ c
   pub unlinked : (a : ℕ) → NotLinked g′ a → NotLinked g a
   pub announced : (a : ℕ) (c : Called) → At (s′ .announced) a c → At (s .announced) a c ⊎ BatchInCall m′ s′ c
   pub going : (a : ℕ) (c : Called) → NotLinked g′ a → At (s .announced) a c → BatchInCall m s c → c .thread ≡ i → BatchInCall m′ s′ c
@@ -95,7 +95,7 @@ pub record StoryLeft (m : Machine) (g : Ghost) (s : Story) (i : ℕ) (m′ : Mac
 -- pending calls that stay, with futures that stay
 module _ (m : Machine) (g : Ghost) (s : Story) (t : ℕ) (m′ : Machine) (g′ : Ghost) (s′ : Story) where
   same-pending : PendingFutures m g s t → of s′ t .calls ≡ of s t .calls → of s′ t .futures ≡ of s t .futures → pendingOf g′ t ≡ pendingOf g t
-      → rowAt m′ t .pending ≡ rowAt m t .pending → m .used .futures ≤ m′ .used .futures → ((f : ℕ) → OwnFuture m t f → futureIn m′ f ≡ futureIn m f)
+      → rowAt m′ t .pending ≡ rowAt m t .pending → m .used .futures ≤ m′ .used .futures → ((f : ℕ) → OwnFuture m t f → futureAt m′ f ≡ futureAt m f)
       → PendingFutures m′ g′ s′ t
   same-pending w calls futures pending places more kept = record {
     calls = calls ∙ w .calls ∙ sym pending;
@@ -131,7 +131,7 @@ module _ (m : Machine) (g : Ghost) (s : Story) (h : Futured m g s) (i : ℕ) (m�
     results = λ f o lt e. inl (omega (arith, used), sym (ap (λ (x : Future). x .outcome) (same f)) ∙ e);
   }
     where
-      same : (f : ℕ) → futureIn m′ f ≡ futureIn m f
+      same : (f : ℕ) → futureAt m′ f ≡ futureAt m f
       same f = ap (λ (l : List Future). getD l (f % 512) noFuture) futures
 
       pending-same : (u : ℕ) → pendingOf g′ u ≡ pendingOf g u
@@ -140,7 +140,7 @@ module _ (m : Machine) (g : Ghost) (s : Story) (h : Futured m g s) (i : ℕ) (m�
       held-same : of s′ i .futures ≡ of s i .futures
       held-same = ap (λ (x : Remembered). x .futures) (remembered-here p) ∙ held
 
-      waiting : (f : ℕ) → OwnFuture m′ i f → futureIn m′ f .outcome ≡ Waiting → In (of s i .futures) f
+      waiting : (f : ℕ) → OwnFuture m′ i f → futureAt m′ f .outcome ≡ Waiting → In (of s i .futures) f
       waiting f own waits =
           subst (λ (u : ℕ). In (of s u .futures) f) (sym (ap (λ (x : Future). x .owner) (same f)) ∙ own .owner)
           (h .waiting f (omega (arith, own .handedOut, used)) (sym (ap (λ (x : Future). x .outcome) (same f)) ∙ waits) .1)
@@ -155,7 +155,7 @@ module _ (m : Machine) (g : Ghost) (s : Story) (h : Futured m g s) (i : ℕ) (m�
   still-own : (t f : ℕ) → OwnFuture m t f → OwnFuture m′ t f
   still-own t f w = record { handedOut = omega (arith, w .handedOut, left .more); owner = left .owners f (w .handedOut) ∙ w .owner }
 
-  still-done : (f : ℕ) → f < m .used .futures → futureIn m f .outcome ≢ Waiting → futureIn m′ f .outcome ≢ Waiting
+  still-done : (f : ℕ) → f < m .used .futures → futureAt m f .outcome ≢ Waiting → futureAt m′ f .outcome ≢ Waiting
   still-done f lt done e = done (sym (ap (λ (x : Future). x .outcome) (left .kept f lt (inr done))) ∙ e)
 
   still-in-call : (c : Called) → BatchInCall m s c → c .thread ≢ i → BatchInCall m′ s′ c
@@ -174,37 +174,37 @@ module _ (m : Machine) (g : Ghost) (s : Story) (h : Futured m g s) (i : ℕ) (m�
       same-pending m g s t m′ g′ s′ (h .each t lt) (ap (λ (x : Remembered). x .calls) same) (ap (λ (x : Remembered). x .futures) same) (left .others t ne)
       (ap (λ (x : Row). x .pending) (row-elsewhere p t ne)) (left .more) (λ f w. left .kept f (w .handedOut) (inl (λ e. ne (sym (w .owner) ∙ e))))
 
-  waiting-after : (f : ℕ) → f < m′ .used .futures → futureIn m′ f .outcome ≡ Waiting → (futureIn m′ f .owner < 8) × In (of s′ (futureIn m′ f .owner) .futures) f
+  waiting-after : (f : ℕ) → f < m′ .used .futures → futureAt m′ f .outcome ≡ Waiting → (futureAt m′ f .owner < 8) × In (of s′ (futureAt m′ f .owner) .futures) f
   waiting-after f lt waits =
-      elim (ℕ-discrete (futureIn m′ f .owner) i) [
+      elim (ℕ-discrete (futureAt m′ f .owner) i) [
         | yes e ↦ (omega (arith, p .small), subst (λ (u : ℕ). In (of s′ u .futures) f) (sym e) (left .waiting f (record { handedOut = lt; owner = e }) waits))
         | no ne ↦ elsewhere ne
       ]
     where
-      elsewhere : futureIn m′ f .owner ≢ i → (futureIn m′ f .owner < 8) × In (of s′ (futureIn m′ f .owner) .futures) f
+      elsewhere : futureAt m′ f .owner ≢ i → (futureAt m′ f .owner < 8) × In (of s′ (futureAt m′ f .owner) .futures) f
       elsewhere ne =
           let old = left .new f lt ne in
           let own = left .owners f old in
-          let other : futureIn m f .owner ≢ i = λ e. ne (own ∙ e) in
+          let other : futureAt m f .owner ≢ i = λ e. ne (own ∙ e) in
           let w = h .waiting f old (sym (ap (λ (x : Future). x .outcome) (left .kept f old (inl other))) ∙ waits) in
           subst (λ (u : ℕ). (u < 8) × In (of s′ u .futures) f) (sym own) (w .0, subst (λ (x : Remembered). In (x .futures) f) (sym (remembered-elsewhere p _ other)) (w .1))
 
-  done-after : (f : ℕ) (o : Result ℕ) → f < m′ .used .futures → futureIn m′ f .outcome ≡ outcomeOf o → Stands (s′ .order) (futureGiven (futureIn m′ f .owner) f o (s′ .clock))
+  done-after : (f : ℕ) (o : Result ℕ) → f < m′ .used .futures → futureAt m′ f .outcome ≡ outcomeOf o → Stands (s′ .order) (futureGiven (futureAt m′ f .owner) f o (s′ .clock))
   done-after f o lt e =
-      ⊎-elim {C = Stands (s′ .order) (futureGiven (futureIn m′ f .owner) f o (s′ .clock))}
+      ⊎-elim {C = Stands (s′ .order) (futureGiven (futureAt m′ f .owner) f o (s′ .clock))}
       (λ w. subst (λ (u : ℕ). Stands (s′ .order) (futureGiven u f o (s′ .clock))) (sym (left .owners f (w .0)))
       (stands-later _ f o (s .clock) (s′ .clock) (story .later) (stands-on _ (run-as-before m g s h (s′ .order) (story .order)) (h .done f o (w .0) (w .1)))))
       (λ w. w)
       (left .results f o lt e)
 
   rows-after : (j a f : ℕ) (x : Effect) → At (s′ .order) j x → At (x .call .futures) a f
-      → OwnFuture m′ (x .call .thread) f × ((futureIn m′ f .outcome ≢ Waiting) ⊎ BatchInCall m′ s′ (x .call))
+      → OwnFuture m′ (x .call .thread) f × ((futureAt m′ f .outcome ≢ Waiting) ⊎ BatchInCall m′ s′ (x .call))
   rows-after j a f x there q = (still-own (x .call .thread) f (w .0), ⊎-elim (λ done. inl (still-done f (w .0 .handedOut) done)) in-call (w .1))
     where
-      w : OwnFuture m (x .call .thread) f × ((futureIn m f .outcome ≢ Waiting) ⊎ BatchInCall m s (x .call))
+      w : OwnFuture m (x .call .thread) f × ((futureAt m f .outcome ≢ Waiting) ⊎ BatchInCall m s (x .call))
       w = owned-after m g s h (s′ .order) (story .order) j a f x there q
 
-      in-call : BatchInCall m s (x .call) → (futureIn m′ f .outcome ≢ Waiting) ⊎ BatchInCall m′ s′ (x .call)
+      in-call : BatchInCall m s (x .call) → (futureAt m′ f .outcome ≢ Waiting) ⊎ BatchInCall m′ s′ (x .call)
       in-call c = elim (ℕ-discrete (x .call .thread) i) [ yes e ↦ story .ended (x .call) c e a f q | no ne ↦ inr (still-in-call (x .call) c ne) ]
 
   going-after : (a : ℕ) (c : Called) → NotLinked g′ a → At (s′ .announced) a c → BatchInCall m′ s′ c

@@ -21,13 +21,13 @@ use Rattle.answer.specs.declared.Outcome.{Outcome}
 use Rattle.answer.specs.declared.Outcome.the-variants.{Waiting}
 use Rattle.pairing.specs.declared.Cursor.{Cursor}
 use Rattle.machine.specs.declared.Machine.{Machine}
-use Rattle.machine.specs.State.{rowAt, memoryOf, noFuture}
+use Rattle.machine.specs.State.{rowAt, memoryOf, noFuture, futureAt}
 use Rattle.machine.specs.Pairing.{pairing, settled}
 use Rattle.machine.specs.Steps.{hop}
 use Rattle.order.specs.Order.{Given, Remembered, Story, of, gives}
 use Rattle.order.specs.PlainQueue.{ResultIn, Stands}
 use Rattle.order.specs.Outcomes.{outcomeOf}
-use Rattle.order.proofs.Events.{futureIn, OwnFuture}
+use Rattle.order.proofs.Events.{OwnFuture}
 use Rattle.order.proofs.Ghost.{Ghost, stepGhost, defers}
 use Rattle.order.proofs.Steps.{pending-kept}
 use Rattle.order.proofs.RowPut.{row-moved}
@@ -89,7 +89,7 @@ module _ (m : Machine) (g : Ghost) (s : Story) (holds : Holds m g) (h : Futured 
   record Pays (j f : ℕ) : Type 0 where
     result : Result ℕ
     there : At (ends .results) j result
-    now : futureIn m′ f .outcome ≡ outcomeOf result
+    now : futureAt m′ f .outcome ≡ outcomeOf result
 
   as-many-results : length (ends .results) ≡ paid
   as-many-results =
@@ -112,7 +112,7 @@ module _ (m : Machine) (g : Ghost) (s : Story) (holds : Holds m g) (h : Futured 
       r = element (ends .results) j (omega (arith, within (of s i .futures) j q, all-paid, as-many-results))
 
   -- the futures of others, and those that were done before, stay
-  untouched : (f : ℕ) → f < m .used .futures → (futureIn m f .owner ≢ i) ⊎ (futureIn m f .outcome ≢ Waiting) → futureIn m′ f ≡ futureIn m f
+  untouched : (f : ℕ) → f < m .used .futures → (futureAt m f .owner ≢ i) ⊎ (futureAt m f .outcome ≢ Waiting) → futureAt m′ f ≡ futureAt m f
   unfolding settled pairing
   untouched f l other =
       other-future (m₁ .links) (m₁ .items) (rowAt m₁ i .last) (rowAt m₁ i .pending) paid few small (m₁ .futures) c (f % 512) not-paid
@@ -124,11 +124,11 @@ module _ (m : Machine) (g : Ghost) (s : Story) (holds : Holds m g) (h : Futured 
           let held = before .held j (w .0) (w .1) in
           let is : w .0 ≡ f = sym (number j (w .0) (w .1)) ∙ e ∙ in-range f l in
           ⊎-elim {C = ⊥}
-          (λ ne. ne (ap (λ (x : ℕ). futureIn m x .owner) (sym is) ∙ held .own .owner))
-          (λ done. done (ap (λ (x : ℕ). futureIn m x .outcome) (sym is) ∙ held .waits))
+          (λ ne. ne (ap (λ (x : ℕ). futureAt m x .owner) (sym is) ∙ held .own .owner))
+          (λ done. done (ap (λ (x : ℕ). futureAt m x .outcome) (sym is) ∙ held .waits))
           other
 
-  owners-stay : (f : ℕ) → futureIn m′ f .owner ≡ futureIn m f .owner
+  owners-stay : (f : ℕ) → futureAt m′ f .owner ≡ futureAt m f .owner
   unfolding settled pairing
   owners-stay f =
       owners-kept (m₁ .links) (m₁ .items) (rowAt m₁ i .last) (rowAt m₁ i .pending) paid 0 (m₁ .futures) c (f % 512)
@@ -139,10 +139,10 @@ module _ (m : Machine) (g : Ghost) (s : Story) (holds : Holds m g) (h : Futured 
   none-handed-out = refl
 
   -- a future that waited for thread i was one of those paid
-  was-pending : (f : ℕ) → f < m .used .futures → futureIn m f .owner ≡ i → futureIn m f .outcome ≡ Waiting → In (of s i .futures) f
+  was-pending : (f : ℕ) → f < m .used .futures → futureAt m f .owner ≡ i → futureAt m f .outcome ≡ Waiting → In (of s i .futures) f
   was-pending f l own waits = subst (λ (u : ℕ). In (of s u .futures) f) own (h .waiting f l waits .1)
 
-  pub paid-is-done : (f : ℕ) → In (of s i .futures) f → futureIn m′ f .outcome ≢ Waiting
+  pub paid-is-done : (f : ℕ) → In (of s i .futures) f → futureAt m′ f .outcome ≢ Waiting
   paid-is-done f q e = let w = pays (q .0) f (q .1) in result-waits-not (w .result) (sym (w .now) ∙ e)
 
   -- the result stands, told for the future that it was paid to
@@ -165,7 +165,7 @@ module _ (m : Machine) (g : Ghost) (s : Story) (holds : Holds m g) (h : Futured 
   answer-stands j x q =
       let asked = ends .call .asks in
       let w = pays (asked .0) (rowAt m i .future) (asked .1) in
-      let is = given-alone i _ _ _ _ (w .result) (ap (λ (r : Row). futureIn m′ (r .future) .outcome) row ∙ w .now) j x q in
+      let is = given-alone i _ _ _ _ (w .result) (ap (λ (r : Row). futureAt m′ (r .future) .outcome) row ∙ w .now) j x q in
       stands (asked .0) (rowAt m i .future) (w .result) (asked .1) (w .there) x (ap (λ (y : Given). y .thread) is)
       (ap (λ (y : Given). y .future) is ∙ ends .call .asked) (ap (λ (y : Given). y .result) is) (omega (arith, ap (λ (y : Given). y .time) is))
       (λ b e. some-injective (sym (ap (λ (y : Given). y .began) is) ∙ e))
@@ -194,28 +194,28 @@ module _ (m : Machine) (g : Ghost) (s : Story) (holds : Holds m g) (h : Futured 
       rising = λ j k e f q. absurd (nothing j e q);
     }
 
-    none-waits : (f : ℕ) → OwnFuture m′ i f → futureIn m′ f .outcome ≡ Waiting → ⊥
+    none-waits : (f : ℕ) → OwnFuture m′ i f → futureAt m′ f .outcome ≡ Waiting → ⊥
     none-waits f own waits =
         let l : f < m .used .futures = omega (arith, own .handedOut, none-handed-out) in
         ⊎-elim {C = ⊥}
         (λ e. paid-is-done f (was-pending f l (sym (owners-stay f) ∙ own .owner) e) waits)
         (λ w.
-        let done : futureIn m f .outcome ≢ Waiting = λ e. result-waits-not (w .0) (sym (w .1) ∙ e) in
+        let done : futureAt m f .outcome ≢ Waiting = λ e. result-waits-not (w .0) (sym (w .1) ∙ e) in
         done (sym (ap (λ (x : Future). x .outcome) (untouched f l (inr done))) ∙ waits))
-        (waits-or-done (futureIn m f .outcome))
+        (waits-or-done (futureAt m f .outcome))
 
     -- a future that waited is thread i's and holds what was paid, for those of others wait still
-    new-result : (f : ℕ) (o : Result ℕ) → f < m .used .futures → futureIn m f .outcome ≡ Waiting → futureIn m′ f .outcome ≡ outcomeOf o
-        → Stands (s′ .order) (futureGiven (futureIn m′ f .owner) f o (s′ .clock))
-    new-result f o l waits e = elim (ℕ-discrete (futureIn m f .owner) i) [ yes own ↦ here own | no ne ↦ absurd (elsewhere ne) ]
+    new-result : (f : ℕ) (o : Result ℕ) → f < m .used .futures → futureAt m f .outcome ≡ Waiting → futureAt m′ f .outcome ≡ outcomeOf o
+        → Stands (s′ .order) (futureGiven (futureAt m′ f .owner) f o (s′ .clock))
+    new-result f o l waits e = elim (ℕ-discrete (futureAt m f .owner) i) [ yes own ↦ here own | no ne ↦ absurd (elsewhere ne) ]
       where
-        here : futureIn m f .owner ≡ i → Stands (s′ .order) (futureGiven (futureIn m′ f .owner) f o (s′ .clock))
+        here : futureAt m f .owner ≡ i → Stands (s′ .order) (futureGiven (futureAt m′ f .owner) f o (s′ .clock))
         here own =
             let q = was-pending f l own waits in
             let w = pays (q .0) f (q .1) in
             stands (q .0) f o (q .1) (w .there ∙ ap some (one-result (w .result) o (sym (w .now) ∙ e))) _ (owners-stay f ∙ own) refl refl later (λ b q. absurd (none-is-not-some refl q))
 
-        elsewhere : futureIn m f .owner ≢ i → ⊥
+        elsewhere : futureAt m f .owner ≢ i → ⊥
         elsewhere ne = result-waits-not o (sym e ∙ ap (λ (x : Future). x .outcome) (untouched f l (inl ne)) ∙ waits)
 
     pub paid-left : FuturesLeft m g s i m′ (defers g₁ i []) s′
@@ -230,5 +230,5 @@ module _ (m : Machine) (g : Ghost) (s : Story) (holds : Holds m g) (h : Futured 
       results = λ f o l e. let l′ : f < m .used .futures = omega (arith, none-handed-out) in ⊎-elim
           (λ waits. inr (new-result f o l′ waits e))
           (λ w. inl (l′, sym (ap (λ (x : Future). x .outcome) (untouched f l′ (inr (λ q. result-waits-not (w .0) (sym (w .1) ∙ q))))) ∙ e))
-          (waits-or-done (futureIn m f .outcome));
+          (waits-or-done (futureAt m f .outcome));
     }

@@ -22,14 +22,13 @@ use Rattle.answer.specs.declared.Answer.the-variants as answer
 use Rattle.answer.specs.declared.Outcome.the-variants.{Waiting}
 use Rattle.pairing.specs.declared.Cursor.{Cursor}
 use Rattle.machine.specs.declared.Machine.{Machine}
-use Rattle.machine.specs.State.{rowAt, memoryOf}
+use Rattle.machine.specs.State.{rowAt, memoryOf, futureAt}
 use Rattle.machine.specs.Pairing.{settled}
 use Rattle.machine.specs.Steps.{hop, tell, stepOf, isMore}
 use Rattle.order.specs.Order.{Called, Effect, Given, Remembered, Story, of, gives, stepOrder, stepTaken, steppedOn, lastReadAt}
 use Rattle.order.specs.PlainQueue.{Stands}
 use Rattle.laws.proofs.Sums.{settled-is-no-more}
 use Rattle.order.proofs.RowPut.{rows-moved, rows-cleared}
-use Rattle.order.proofs.Events.{futureIn}
 use Rattle.order.proofs.Ghost.{Ghost, stepGhost, endGhost, defers, stepOfGhost}
 use Rattle.order.proofs.Invariant.{NotLinked}
 use Rattle.order.proofs.Knows.{Alone}
@@ -78,7 +77,7 @@ module _ (m : Machine) (g : Ghost) (s : Story) (holds : Holds m g) (h : Futured 
 
   -- what a step leaves of the story: nothing is unlinked, and no announcement is new
   story-left : (a : Answer) (m′ : Machine) (g′ : Ghost) → g′ .by ≡ g₁ .by → ((j : ℕ) (x : Given) → At (gave a) j x → Stands order′ x)
-      → ((c : Called) → BatchInCall m s c → c .thread ≡ i → (b f : ℕ) → At (c .futures) b f → (futureIn m′ f .outcome ≢ Waiting) ⊎ BatchInCall m′ (told a) c)
+      → ((c : Called) → BatchInCall m s c → c .thread ≡ i → (b f : ℕ) → At (c .futures) b f → (futureAt m′ f .outcome ≢ Waiting) ⊎ BatchInCall m′ (told a) c)
       → ((b : ℕ) (c : Called) → NotLinked g′ b → At (s .announced) b c → BatchInCall m s c → c .thread ≡ i → BatchInCall m′ (told a) c)
       → StoryLeft m g s i m′ g′ (told a)
   story-left a m′ g′ by stands ended going = record {

@@ -25,7 +25,7 @@ use Rattle.refuse.specs.Refusals.{foreign, lacking, evaluateNeeds}
 use Rattle.answer.specs.Verdicts.{whereAccepted}
 use Rattle.machine.specs.declared.Machine.{Machine}
 use Rattle.machine.specs.declared.Told.{Told}
-use Rattle.machine.specs.State.{freshMachine, rowAt, noFuture}
+use Rattle.machine.specs.State.{freshMachine, rowAt, noFuture, futureAt}
 use Rattle.machine.specs.Steps.{stepOf, isMore, oneMore, advance}
 use Rattle.machine.specs.Entries.{decided, refusing, evaluateWaiting, evaluateOwn, evaluateKnown, evaluate, enqueue, dequeue, futureEnqueue, futureDequeue, run, apply}
 use Rattle.order.specs.Events.{Event, EnqueueStarts, DequeueStarts, EnqueueDeferred, DequeueDeferred, BatchSetOff, FutureAsked, StepTaken, does, afterEvents, keptBeside, runEvents, evaluateOwnEvents, evaluateEvents, entryEvents, events}
@@ -34,7 +34,7 @@ use Rattle.entry.specs.Operands.{threadOf}
 use Rattle.order.specs.PlainQueue.{resultsTold}
 use Rattle.order.specs.Reached.{after}
 use Rattle.order.proofs.Ghost.{Ghost, freshGhost}
-use Rattle.order.proofs.Events.{futureIn, entry-made}
+use Rattle.order.proofs.Events.{entry-made}
 use Rattle.order.proofs.Reached.{Holds, holds-sized, fresh-holds, after-holds}
 
 abbrev resultsOf : List Given → List (ℕ × Result ℕ)
@@ -51,7 +51,7 @@ resultsAt m (DequeueStarts i) = []
 resultsAt m (EnqueueDeferred i v) = []
 resultsAt m (DequeueDeferred i) = []
 resultsAt m (BatchSetOff i f) = []
-resultsAt m (FutureAsked i f) = toldTo i (answered (futureIn m f .outcome))
+resultsAt m (FutureAsked i f) = toldTo i (answered (futureAt m f .outcome))
 resultsAt m (StepTaken i) = toldTo i (stepOf m i .answer)
 
 unfoldable resultsAmong : Machine → List Event → List (ℕ × Result ℕ)
@@ -69,7 +69,7 @@ event-told m s (DequeueStarts i) = sym (append-nil _)
 event-told m s (EnqueueDeferred i v) = sym (append-nil _)
 event-told m s (DequeueDeferred i) = sym (append-nil _)
 event-told m s (BatchSetOff i f) = sym (append-nil _)
-event-told m s (FutureAsked i f) = gives-its-result i (some f) none (s .clock) (s .given) (answered (futureIn m f .outcome))
+event-told m s (FutureAsked i f) = gives-its-result i (some f) none (s .clock) (s .given) (answered (futureAt m f .outcome))
 event-told m s (StepTaken i) = gives-its-result i (of s i .called .asked) (some (of s i .called .began)) (s .clock) (s .given) (stepOf m i .answer)
 
 events-told : (xs : List Event) (m : Machine) (s : Story) → resultsOf (keptBeside happens m s xs .given) ≡ resultsOf (s .given) ++ resultsAmong m xs
@@ -110,22 +110,22 @@ module _ (m : Machine) where
   either-gives-nothing true xs ys e f = e
   either-gives-nothing false xs ys e f = f
 
-  own-tells : (i f : ℕ) (o : Outcome) → futureIn m f .outcome ≡ o → resultsAmong m (evaluateOwnEvents m i f o) ≡ toldTo i (evaluateOwn m i f o .answer)
+  own-tells : (i f : ℕ) (o : Outcome) → futureAt m f .outcome ≡ o → resultsAmong m (evaluateOwnEvents m i f o) ≡ toldTo i (evaluateOwn m i f o .answer)
   unfolding evaluateOwn evaluateWaiting resultsAmong
   own-tells i f outcome.Waiting e = decided-tells (lacking (evaluateNeeds (rowAt m i)) (m .used) (m .nodes) (rowAt m i .count)) m i _ _ refl
   own-tells i f outcome.Ok e = append-nil _ ∙ ap (λ (o : Outcome). toldTo i (answered o)) e
   own-tells i f (outcome.Item v) e = append-nil _ ∙ ap (λ (o : Outcome). toldTo i (answered o)) e
   own-tells i f outcome.Empty e = append-nil _ ∙ ap (λ (o : Outcome). toldTo i (answered o)) e
 
-  known-tells : (t f : ℕ) → resultsAmong m (evaluateEvents m t f (futureIn m f)) ≡ toldTo (t % 8) (evaluateKnown m t f (futureIn m f) .answer)
+  known-tells : (t f : ℕ) → resultsAmong m (evaluateEvents m t f (futureAt m f)) ≡ toldTo (t % 8) (evaluateKnown m t f (futureAt m f) .answer)
   unfolding evaluateKnown resultsAmong
-  known-tells t f = by (foreign f (futureIn m f .owner) (m .used .futures) t)
+  known-tells t f = by (foreign f (futureAt m f .owner) (m .used .futures) t)
     where
-      by : (b : Bool) → resultsAmong m (cond b [] (evaluateOwnEvents m (t % 8) (f % 512) (futureIn m f .outcome)))
-          ≡ toldTo (t % 8) (cond b (refusing m NotOwnFuture) (evaluateOwn m (t % 8) (f % 512) (futureIn m f .outcome)) .answer)
+      by : (b : Bool) → resultsAmong m (cond b [] (evaluateOwnEvents m (t % 8) (f % 512) (futureAt m f .outcome)))
+          ≡ toldTo (t % 8) (cond b (refusing m NotOwnFuture) (evaluateOwn m (t % 8) (f % 512) (futureAt m f .outcome)) .answer)
       by true = refl
       by false =
-          own-tells (t % 8) (f % 512) (futureIn m f .outcome)
+          own-tells (t % 8) (f % 512) (futureAt m f .outcome)
           (ap (λ (k : ℕ). getD (m .futures) k noFuture .outcome) (let z : f % 512 % 512 ≡ f % 512 = omega arith in z))
 
   entry-tells : (e : Entry) → resultsAmong m (entryEvents m e) ≡ toldTo (threadOf e % 8) (apply m e .answer)

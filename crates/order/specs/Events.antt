@@ -5,7 +5,6 @@ use Prim.Native.Nat.{ℕ, zero, suc, _%_}
 use mathlib.Core.Bool.{cond}
 use mathlib.Core.List.{List, [], _∷_, _++_}
 use lib.Dec.{eqb}
-use lib.ListN.{getD}
 use Rattle.place.specs.declared.Place.the-variants as place
 use Rattle.place.specs.declared.EnqueueStep.the-variants.{E1}
 use Rattle.place.specs.declared.DequeueStep.the-variants.{D1}
@@ -20,7 +19,7 @@ use Rattle.next.specs.Next.{nextNode, nextFuture}
 use Rattle.refuse.specs.Refusals.{callable, steppable, foreign, lacking, callVerdict, enqueueNeeds, dequeueNeeds, futureEnqueueNeeds, futureDequeueNeeds, evaluateNeeds}
 use Rattle.answer.specs.Verdicts.{whereAccepted}
 use Rattle.machine.specs.declared.Machine.{Machine}
-use Rattle.machine.specs.State.{rowAt, withRow, noFuture}
+use Rattle.machine.specs.State.{rowAt, withRow, futureAt}
 use Rattle.machine.specs.HandOut.{handOutNode}
 use Rattle.machine.specs.Steps.{stepOf, isMore}
 use Rattle.machine.specs.Entries.{deferEnqueue, deferDequeue, setOff, apply}
@@ -95,7 +94,7 @@ entryEvents m (entry.Dequeue t) = callEvents m t (dequeueNeeds (rowAt m (t % 8))
 entryEvents m (entry.FutureEnqueue t v) = callEvents m t futureEnqueueNeeds (EnqueueDeferred (t % 8) v ∷ [])
 entryEvents m (entry.FutureDequeue t) = callEvents m t futureDequeueNeeds (DequeueDeferred (t % 8) ∷ [])
 entryEvents m (entry.Evaluate t f) =
-    whereAccepted (callable t (m .threads) (rowAt m (t % 8) .place)) (evaluateEvents m t f (getD (m .futures) (f % 512) noFuture)) []
+    whereAccepted (callable t (m .threads) (rowAt m (t % 8) .place)) (evaluateEvents m t f (futureAt m f)) []
 entryEvents m (entry.Step t) = stepEvents m t 1
 entryEvents m (entry.Run t n) = stepEvents m t n
 

@@ -1,5 +1,5 @@
 -- The order of effect: 01, "Contents and order of effect", over the events (Events.antt). PlainQueue.antt has what is promised of it.
-use Prim.Native.Nat.{ℕ, suc, _%_}
+use Prim.Native.Nat.{ℕ, suc}
 use mathlib.Core.Bool.{Bool, cond}
 use mathlib.Core.List.{List, [], _∷_, _++_, map}
 use mathlib.Core.Option.{Option, none, some}
@@ -26,7 +26,7 @@ use Rattle.entry.specs.declared.Entry.{Entry}
 use Rattle.answer.specs.Answer.{answered}
 use Rattle.next.specs.Next.{nextFuture}
 use Rattle.machine.specs.declared.Machine.{Machine}
-use Rattle.machine.specs.State.{rowAt, memoryOf, noFuture}
+use Rattle.machine.specs.State.{rowAt, memoryOf, futureAt}
 use Rattle.machine.specs.Steps.{stepOf, isMore}
 use Rattle.order.specs.Links.{ifNone}
 use Rattle.order.specs.Events.{Event, EnqueueStarts, DequeueStarts, EnqueueDeferred, DequeueDeferred, BatchSetOff, FutureAsked, StepTaken, keptBeside, events}
@@ -225,7 +225,7 @@ abbrev pub asks : Machine → Story → ℕ → ℕ → Story
 asks m s i f = record {
   clock = suc (s .clock);
   order = s .order;
-  given = s .given ++ gives i (some f) none (s .clock) (answered (getD (m .futures) (f % 512) noFuture .outcome));
+  given = s .given ++ gives i (some f) none (s .clock) (answered (futureAt m f .outcome));
   threads = s .threads;
   started = s .started;
   announced = s .announced;

@@ -31,11 +31,11 @@ pub record Turn : Type 0 where
   pub outcome : Outcome
 
 -- the k-th pending call's future
-abbrev pub futureAt : List ℕ → ℕ → List Future → Future
-futureAt pending k fs = getD fs (getD pending (k % 32) 0 % 512) noFuture
+abbrev pub turnFuture : List ℕ → ℕ → List Future → Future
+turnFuture pending k fs = getD fs (getD pending (k % 32) 0 % 512) noFuture
 
 abbrev pub withOutcome : List ℕ → ℕ → List Future → Outcome → List Future
-withOutcome pending k fs o = set fs (getD pending (k % 32) 0 % 512) (done (futureAt pending k fs) o)
+withOutcome pending k fs o = set fs (getD pending (k % 32) 0 % 512) (done (turnFuture pending k fs) o)
 
 abbrev pub turnOf : List Cell → List Item → ℕ → Cursor → Future → Turn
 turnOf links items last c f = record { cursor = c; enqueue = f .enqueue; outcome = paidTo links items last c f .outcome }
@@ -44,10 +44,10 @@ turnOf links items last c f = record { cursor = c; enqueue = f .enqueue; outcome
 unfoldable pub turns : ℕ → List Cell → List Item → ℕ → List ℕ → ℕ → List Future → Cursor → List Turn
 turns zero links items last pending k fs c = []
 turns (suc n) links items last pending k fs c =
-    turnOf links items last c (futureAt pending k fs)
+    turnOf links items last c (turnFuture pending k fs)
     ∷ turns n links items last pending (k + 1)
-    (withOutcome pending k fs (paidTo links items last c (futureAt pending k fs) .outcome))
-    (paidTo links items last c (futureAt pending k fs) .cursor)
+    (withOutcome pending k fs (paidTo links items last c (turnFuture pending k fs) .outcome))
+    (paidTo links items last c (turnFuture pending k fs) .cursor)
 
 -- where the two pairings begin: as `tell` of machine/specs/Steps.antt has them
 abbrev pub batchCursor : ℕ → ℕ → Cursor

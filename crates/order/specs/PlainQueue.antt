@@ -5,14 +5,13 @@ use Prim.Native.Nat.{ℕ, _%_, _<_, _≤_}
 use mathlib.Core.Path.{_≡_}
 use mathlib.Core.List.{List, [], _∷_, _++_, map}
 use mathlib.Core.Option.{Option, none, some}
-use lib.ListN.{getD}
 use Rattle.chain.specs.Positions.{At, In}
 use Rattle.tally.specs.Fifo.{Result, left, results}
 use Rattle.answer.specs.declared.Outcome.the-variants.{Waiting}
 use Rattle.entry.specs.declared.Entry.{Entry}
 use Rattle.entry.specs.Operands.{threadOf}
 use Rattle.machine.specs.declared.Machine.{Machine}
-use Rattle.machine.specs.State.{noFuture}
+use Rattle.machine.specs.State.{futureAt}
 use Rattle.contents.specs.Contents as machine
 use Rattle.machine.specs.Entries.{apply}
 use Rattle.order.specs.Reached.{after}
@@ -53,10 +52,10 @@ pub record AsAPlainQueue (m : Machine) (s : Story) : Type 0 where
   pub contents : leaves (s .order) [] ≡ machine.contents m
   -- every result given, and every one that a done future holds, is that of the run
   pub given : (j : ℕ) (g : Given) → At (s .given) j g → Stands (s .order) g
-  pub done : (f : ℕ) (r : Result ℕ) → f < m .used .futures → getD (m .futures) (f % 512) noFuture .outcome ≡ outcomeOf r
-      → Stands (s .order) (record { thread = getD (m .futures) (f % 512) noFuture .owner; future = some f; began = none; result = r; time = s .clock })
+  pub done : (f : ℕ) (r : Result ℕ) → f < m .used .futures → futureAt m f .outcome ≡ outcomeOf r
+      → Stands (s .order) (record { thread = futureAt m f .owner; future = some f; began = none; result = r; time = s .clock })
   -- a future that is not done is one of its thread's pending calls: the end of a batch leaves none waiting
-  pub waiting : (f : ℕ) → f < m .used .futures → getD (m .futures) (f % 512) noFuture .outcome ≡ Waiting → In (of s (getD (m .futures) (f % 512) noFuture .owner) .futures) f
+  pub waiting : (f : ℕ) → f < m .used .futures → futureAt m f .outcome ≡ Waiting → In (of s (futureAt m f .owner) .futures) f
   -- only calls that were started stand there, each no earlier than it began; times rise along the order. So a call whose result was given before another
   -- began stands before it (`stands-before`, proofs/Ordered.antt).
   pub started : (j : ℕ) (x : Effect) → At (s .order) j x → In (s .started) (x .call)

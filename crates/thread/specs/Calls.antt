@@ -1,4 +1,4 @@
--- The access of a thread's next step, and how it goes on; by the five kinds of 01, "Steps".
+-- The access of a thread's next step, and how it goes on; by the four kinds of call of 01, "Steps", and running an announcement.
 use Prim.Native.Nat.{ℕ}
 use Rattle.cells.specs.declared.Request.{Request}
 use Rattle.cells.specs.declared.Found.{Found}

@@ -1,5 +1,6 @@
 -- `machine::Machine::apply` meets its contract, by the one verdict on the entry.
-use Rattle.machine.proofs.Decided.{refused-at-once, accepted-then}
+use Rattle.machine.proofs.Decided.{by-verdict}
+use Rattle.machine.specs.Entries.{decided}
 use borrow.Author.Needs.{needs}
 use Rattle.machine.proofs.Machine.apply.Statement.{statement}
 use Rattle.machine.proofs.Machine.apply.Tie as tie
@@ -35,14 +36,16 @@ accepted-requires : tie.Need-accepted-requires
 accepted-requires c κs = search needs
 
 returns : tie.Need-returns
+unfolding decided
 returns c =
     let a = c .before .before .before .before .before .before .before .before .before .before .args in
-    refused-at-once (a .self) (a .entry) (c .before .before .before .before .before .before .before .before .before .thread .ensures) (c .before .before .before .before .before .before .before .before .row-at .ensures) (c .before .before .before .before .before .before .before .future .ensures) (c .before .before .before .before .before .before .future-at .ensures) (c .before .before .before .before .verdict .ensures) (c .before .before .verdict2 .given .1) (c .refusing .ensures)
+    by-verdict (a .self) (a .entry) _ (c .before .before .before .before .before .before .before .before .before .thread .ensures) (c .before .before .before .before .before .before .before .before .row-at .ensures) (c .before .before .before .before .before .before .before .future .ensures) (c .before .before .before .before .before .before .future-at .ensures) (c .before .before .before .before .verdict .ensures) (c .before .before .verdict2 .given .1) (c .refusing .ensures)
 
 returns-2 : tie.Need-returns-2
+unfolding decided
 returns-2 c =
     let a = c .before .before .before .before .before .before .before .before .before .args in
-    accepted-then (a .self) (a .entry) (c .before .before .before .before .before .before .before .before .thread .ensures) (c .before .before .before .before .before .before .before .row-at .ensures) (c .before .before .before .before .before .before .future .ensures) (c .before .before .before .before .before .future-at .ensures) (c .before .before .before .verdict .ensures) (c .before .enum-told .given .1) (c .accepted .ensures)
+    by-verdict (a .self) (a .entry) _ (c .before .before .before .before .before .before .before .before .thread .ensures) (c .before .before .before .before .before .before .before .row-at .ensures) (c .before .before .before .before .before .before .future .ensures) (c .before .before .before .before .before .future-at .ensures) (c .before .before .before .verdict .ensures) (c .before .enum-told .given .1) (c .accepted .ensures)
 
 pub apply-spec : {M : Type 1} → statement M
 apply-spec =
