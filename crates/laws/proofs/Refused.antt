@@ -3,7 +3,6 @@
 use Prim.Native.Nat.{ℕ, zero, suc, _%_}
 use mathlib.Core.Path.{_≡_, refl, sym, ap, _∙_}
 use mathlib.Core.Bool.{Bool, true, false, false≢true, cond}
-use lib.ListN.{getD}
 use Rattle.refusal.specs.declared.Refusal.{Refusal}
 use Rattle.refusal.specs.declared.Refusal.the-variants.{NotOwnFuture}
 use Rattle.answer.specs.declared.Outcome.{Outcome}
@@ -23,11 +22,9 @@ use Rattle.machine.specs.declared.Machine.{Machine}
 use Rattle.machine.specs.declared.Told.{Told}
 use Rattle.entry.specs.declared.Entry.{Entry}
 use Rattle.entry.specs.declared.Entry.the-variants.{Enqueue, Dequeue, FutureEnqueue, FutureDequeue, Evaluate, Step, Run}
-use Rattle.machine.specs.State.{rowAt, noFuture, futureAt}
-use Rattle.machine.specs.Pairing.{pairing, settled}
+use Rattle.machine.specs.State.{rowAt, futureAt}
+use Rattle.machine.specs.Pairing.{pairing, settled, batchCursor, dequeuesCursor}
 use Rattle.pairing.specs.declared.Cursor.{Cursor}
-use Rattle.pairing.specs.declared.Supply.the-variants.{Batch, Dequeues}
-use Rattle.cells.specs.declared.Link.the-variants.{To}
 use Rattle.machine.specs.Steps.{hop, tell, stepOf, isMore, oneMore, advance}
 use Rattle.machine.specs.Entries.{refusing, telling, decided, startEnqueue, startDequeue, deferEnqueue, deferDequeue, setOff, evaluateWaiting, evaluateOwn, evaluateKnown, enqueue, dequeue, futureEnqueue, futureDequeue, evaluate, run, apply}
 
@@ -66,15 +63,15 @@ answered-accepted outcome.Empty = refl
 
 settled-accepted : (m : Machine) (i k : ℕ) (c : Cursor) → isRefused (settled m i k c .answer) ≡ false
 unfolding settled
-settled-accepted m i k c = answered-accepted (getD (pairing m i c .futures) (rowAt m i .future % 512) noFuture .outcome)
+settled-accepted m i k c = answered-accepted (futureAt (pairing m i c) (rowAt m i .future) .outcome)
 
 told-accepted : (m : Machine) (i k : ℕ) (a : After) → isRefused (tell m i k a .answer) ≡ false
 told-accepted m i k (afterwards.On p) = refl
 told-accepted m i k afterwards.Ok = refl
 told-accepted m i k afterwards.Empty = refl
 told-accepted m i k (afterwards.Item n) = refl
-told-accepted m i k (afterwards.Pair from) = settled-accepted m i k (record { at = from; supply = Batch (To (rowAt m i .first)) false })
-told-accepted m i k (afterwards.PairDequeues from taken) = settled-accepted m i k (record { at = from; supply = Dequeues taken })
+told-accepted m i k (afterwards.Pair from) = settled-accepted m i k (batchCursor from (rowAt m i .first))
+told-accepted m i k (afterwards.PairDequeues from taken) = settled-accepted m i k (dequeuesCursor from taken)
 
 either-accepted : (b : Bool) (x y : Told) → isRefused (x .answer) ≡ false → isRefused (y .answer) ≡ false → isRefused (cond b x y .answer) ≡ false
 either-accepted true x y f g = f

@@ -15,32 +15,21 @@ use Rattle.place.specs.declared.After.{After}
 use Rattle.place.specs.declared.After.the-variants as afterwards
 use Rattle.place.specs.Place.{idle, goesOn}
 use Rattle.machine.specs.declared.Machine.{Machine}
-use Rattle.machine.specs.State.{rowAt, noFuture}
-use Rattle.machine.specs.Pairing.{pairing, settled}
-use lib.ListN.{getD}
-use Rattle.answer.specs.declared.Outcome.{Outcome}
-use Rattle.answer.specs.declared.Outcome.the-variants as outcome
-use Rattle.answer.specs.Answer.{answered}
+use Rattle.machine.specs.State.{rowAt, futureAt}
+use Rattle.machine.specs.Pairing.{pairing, settled, batchCursor, dequeuesCursor}
 use Rattle.pairing.specs.declared.Cursor.{Cursor}
-use Rattle.pairing.specs.declared.Supply.the-variants.{Batch, Dequeues}
-use Rattle.cells.specs.declared.Link.the-variants.{To}
 use Rattle.machine.specs.Steps.{hop, tell, stepOf, isMore, advance}
 use Rattle.machine.specs.Entries.{decided, run}
 use Rattle.laws.proofs.InCall.{hop-in-call}
 use Rattle.laws.proofs.StepChanges.{step-changes}
 use Rattle.laws.specs.Counted.{moreSteps}
 use Rattle.laws.proofs.Runs.{run-induction, run-of-sum}
+use Rattle.machine.proofs.Runs.{result-is-no-more}
 
 -- the end of a batch's call is never answered with more
 pub settled-is-no-more : (m : Machine) (i k : ℕ) (c : Cursor) → isMore (settled m i k c .answer) ≡ false
 unfolding settled
-settled-is-no-more m i k c = result (getD (pairing m i c .futures) (rowAt m i .future % 512) noFuture .outcome)
-  where
-    result : (o : Outcome) → isMore (answered o) ≡ false
-    result outcome.Waiting = refl
-    result outcome.Ok = refl
-    result (outcome.Item v) = refl
-    result outcome.Empty = refl
+settled-is-no-more m i k c = result-is-no-more (futureAt (pairing m i c) (rowAt m i .future) .outcome)
 
 -- a step that answers more goes on, and leaves the machine of its hop
 goes-on : (m : Machine) (i : ℕ) (a : After) → isMore (tell m i 1 a .answer) ≡ true → (goesOn a ≡ true) × (tell m i 1 a .machine ≡ m)
@@ -48,8 +37,8 @@ goes-on m i (afterwards.On p) e = (refl, refl)
 goes-on m i afterwards.Ok e = absurd (false≢true e)
 goes-on m i afterwards.Empty e = absurd (false≢true e)
 goes-on m i (afterwards.Item n) e = absurd (false≢true e)
-goes-on m i (afterwards.Pair from) e = absurd (false≢true (sym (settled-is-no-more m i 1 (record { at = from; supply = Batch (To (rowAt m i .first)) false })) ∙ e))
-goes-on m i (afterwards.PairDequeues from taken) e = absurd (false≢true (sym (settled-is-no-more m i 1 (record { at = from; supply = Dequeues taken })) ∙ e))
+goes-on m i (afterwards.Pair from) e = absurd (false≢true (sym (settled-is-no-more m i 1 (batchCursor from (rowAt m i .first))) ∙ e))
+goes-on m i (afterwards.PairDequeues from taken) e = absurd (false≢true (sym (settled-is-no-more m i 1 (dequeuesCursor from taken)) ∙ e))
 
 -- so a thread in a call is in it after every Run that answers more, and the thread count is as it was
 still-in-call : (i n : ℕ) (m : Machine) → idle (rowAt m i .place) ≡ false → advance m i n .answer ≡ More → (idle (rowAt (advance m i n .machine) i .place) ≡ false) × (advance m i n .machine .threads ≡ m .threads)

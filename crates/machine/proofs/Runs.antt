@@ -18,7 +18,7 @@ use Rattle.machine.specs.Pairing.{settled}
 use Rattle.machine.specs.Steps.{Hop, hop, hops, tell, isMore, oneMore, advance}
 
 -- a result is never more
-result-is-no-more : (o : Outcome) → isMore (answered o) ≡ false
+pub result-is-no-more : (o : Outcome) → isMore (answered o) ≡ false
 result-is-no-more outcome.Waiting = refl
 result-is-no-more outcome.Ok = refl
 result-is-no-more (outcome.Item v) = refl

@@ -1,23 +1,25 @@
 -- Pairing of results with futures: listings 6 and 8 of 002, in the step that ends the call.
 use Prim.Native.Nat.{ℕ, zero, suc, _+_, _%_}
+use mathlib.Core.Bool.{false}
 use mathlib.Core.List.{List}
 use lib.ListN.{getD, set}
 use Rattle.cells.specs.declared.Cell.{Cell}
+use Rattle.cells.specs.declared.Link.the-variants.{To}
 use Rattle.memory.specs.Memory.{cellAt}
 use Rattle.row.specs.declared.Row.{Row}
 use Rattle.row.specs.Row.{cleared}
 use Rattle.answer.specs.declared.Item.{Item}
 use Rattle.answer.specs.declared.Outcome.{Outcome}
-use Rattle.answer.specs.declared.Outcome.the-variants as outcome
 use Rattle.answer.specs.declared.Future.{Future}
 use Rattle.machine.specs.declared.Told.{Told}
 use Rattle.machine.specs.declared.Machine.{Machine}
+use Rattle.pairing.specs.declared.Supply.the-variants.{Batch, Dequeues}
 use Rattle.pairing.specs.declared.Cursor.{Cursor}
 use Rattle.pairing.specs.declared.Paid.{Paid}
 use Rattle.pairing.specs.declared.Around.{Around}
 use Rattle.answer.specs.Answer.{answered}
 use Rattle.pairing.specs.Pairing.{nodeBehind, nextOf, pay}
-use Rattle.machine.specs.State.{rowAt, withRow, withFutures, noItem, noFuture}
+use Rattle.machine.specs.State.{rowAt, withRow, withFutures, futureAt, noItem, noFuture}
 
 -- what a turn reads: links and items as they are, the batch's last node
 abbrev pub around : List Cell → List Item → ℕ → Cursor → Around
@@ -36,13 +38,20 @@ done f o = record { owner = f .owner; enqueue = f .enqueue; outcome = o }
 abbrev pub paidTo : List Cell → List Item → ℕ → Cursor → Future → Paid
 paidTo links items last c f = pay (c .at) (c .supply) (f .enqueue) (around links items last c)
 
+-- the k-th pending call's future; and the futures once it is done
+abbrev pub pendingFuture : List ℕ → ℕ → List Future → Future
+pendingFuture pending k fs = getD fs (getD pending (k % 32) 0 % 512) noFuture
+
+abbrev pub withOutcome : List ℕ → ℕ → List Future → Outcome → List Future
+withOutcome pending k fs o = set fs (getD pending (k % 32) 0 % 512) (done (pendingFuture pending k fs) o)
+
 -- the futures of n pending calls from the k-th on become done, in calling order
 unfoldable pub pairFrom : ℕ → List Cell → List Item → ℕ → List ℕ → ℕ → List Future → Cursor → List Future
 pairFrom zero links items last pending k fs c = fs
 pairFrom (suc n) links items last pending k fs c =
     pairFrom n links items last pending (k + 1)
-    (set fs (getD pending (k % 32) 0 % 512) (done (getD fs (getD pending (k % 32) 0 % 512) noFuture) (paidTo links items last c (getD fs (getD pending (k % 32) 0 % 512) noFuture) .outcome)))
-    (paidTo links items last c (getD fs (getD pending (k % 32) 0 % 512) noFuture) .cursor)
+    (withOutcome pending k fs (paidTo links items last c (pendingFuture pending k fs) .outcome))
+    (paidTo links items last c (pendingFuture pending k fs) .cursor)
 
 -- the futures of a row's pending calls
 abbrev pub pairingOf : Machine → Row → Cursor → Machine
@@ -55,6 +64,13 @@ pairing m i c = pairingOf m (rowAt m i) c
 unfoldable pub settled : Machine → ℕ → ℕ → Cursor → Told
 settled m i steps c = record {
   machine = withRow (pairing m i c) i (cleared (rowAt m i));
-  answer = answered (getD (pairing m i c .futures) (rowAt m i .future % 512) noFuture .outcome);
+  answer = answered (futureAt (pairing m i c) (rowAt m i .future) .outcome);
   steps = steps;
 }
+
+-- where the two pairings begin: listing 6 at the old head, with the batch's first node; listing 8 at the head that was read, with the nodes taken
+abbrev pub batchCursor : ℕ → ℕ → Cursor
+batchCursor from first = record { at = from; supply = Batch (To first) false }
+
+abbrev pub dequeuesCursor : ℕ → ℕ → Cursor
+dequeuesCursor from taken = record { at = from; supply = Dequeues taken }

@@ -2,7 +2,6 @@
 use Prim.Native.Nat.{ℕ, zero, suc}
 use mathlib.Core.Bool.{Bool, true, false, cond}
 use lib.ListN.{getD}
-use Rattle.cells.specs.declared.Link.the-variants.{To}
 use Rattle.cells.specs.declared.Request.{Request}
 use Rattle.memory.specs.Memory.{Performed, perform, noAnnouncement}
 use Rattle.place.specs.declared.Place.the-variants.{Idle}
@@ -17,9 +16,8 @@ use Rattle.answer.specs.declared.Answer.the-variants.{Ok, Item, Empty, More}
 use Rattle.machine.specs.declared.Told.{Told}
 use Rattle.machine.specs.declared.Machine.{Machine}
 use Rattle.machine.specs.declared.engine.Ran.{Ran}
-use Rattle.pairing.specs.declared.Supply.the-variants.{Batch, Dequeues}
 use Rattle.machine.specs.State.{memoryOf, withMemory, rowAt, withRow, itemAt}
-use Rattle.machine.specs.Pairing.{settled}
+use Rattle.machine.specs.Pairing.{settled, batchCursor, dequeuesCursor}
 
 -- the request of the announcement that a thread runs
 abbrev pub requestOf : Machine → Row → Request
@@ -50,8 +48,8 @@ tell m i steps (afterwards.On p) = record { machine = m; answer = More; steps = 
 tell m i steps afterwards.Ok = record { machine = m; answer = Ok; steps = steps }
 tell m i steps afterwards.Empty = record { machine = m; answer = Empty; steps = steps }
 tell m i steps (afterwards.Item n) = record { machine = m; answer = Item (itemAt m n); steps = steps }
-tell m i steps (afterwards.Pair from) = settled m i steps (record { at = from; supply = Batch (To (rowAt m i .first)) false })
-tell m i steps (afterwards.PairDequeues from taken) = settled m i steps (record { at = from; supply = Dequeues taken })
+tell m i steps (afterwards.Pair from) = settled m i steps (batchCursor from (rowAt m i .first))
+tell m i steps (afterwards.PairDequeues from taken) = settled m i steps (dequeuesCursor from taken)
 
 -- one step of the thread whose row is i
 abbrev pub stepOf : Machine → ℕ → Told

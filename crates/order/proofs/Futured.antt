@@ -17,7 +17,8 @@ use Rattle.pairing.specs.declared.Cursor.{Cursor}
 use Rattle.machine.specs.declared.Machine.{Machine}
 use Rattle.machine.specs.State.{rowAt, futureAt}
 use Rattle.machine.specs.Steps.{hop, stepOf}
-use Rattle.order.specs.PairingReads.{turnsFrom, batchCursor, dequeuesCursor}
+use Rattle.machine.specs.Pairing.{batchCursor, dequeuesCursor}
+use Rattle.order.specs.PairingReads.{turnsFrom}
 use Rattle.order.specs.Order.{Called, Effect, Given, Story, of, gives}
 use Rattle.order.specs.PlainQueue.{Ran, ran, Stands}
 use Rattle.order.specs.Outcomes.{outcomeOf}

@@ -26,7 +26,8 @@ use Rattle.machine.specs.State.{rowAt, memoryOf, withMemory}
 use Rattle.machine.specs.Steps.{hop, tell, stepOf}
 use Rattle.order.specs.Promises.{requestIn}
 use Rattle.order.specs.Outcomes.{outcomeOf}
-use Rattle.order.specs.PairingReads.{turns, turnsFrom, batchCursor, dequeuesCursor}
+use Rattle.machine.specs.Pairing.{batchCursor, dequeuesCursor}
+use Rattle.order.specs.PairingReads.{turns, turnsFrom}
 use Rattle.order.specs.Order.{Called, Effect, Given, Story, of, resultsIn}
 use Rattle.order.specs.PlainQueue.{ResultIn, Stands}
 use Rattle.order.proofs.Ghost.{Ghost, Batch, pendingOf, stepGhost}

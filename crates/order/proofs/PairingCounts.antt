@@ -22,10 +22,10 @@ use Rattle.answer.specs.declared.Future.{Future}
 use Rattle.pairing.specs.declared.Cursor.{Cursor}
 use Rattle.machine.specs.declared.Machine.{Machine}
 use Rattle.machine.specs.State.{rowAt, memoryOf, noFuture}
-use Rattle.machine.specs.Pairing.{done}
+use Rattle.machine.specs.Pairing.{done, pendingFuture, withOutcome, batchCursor, dequeuesCursor}
 use Rattle.machine.specs.Steps.{hop}
 use Rattle.order.proofs.Ghost.{Ghost, pendingOf, stepGhost}
-use Rattle.order.specs.PairingReads.{AllStayOn, turnFuture, withOutcome, turns, batchCursor, dequeuesCursor, turnsFrom, turnsAfter}
+use Rattle.order.specs.PairingReads.{AllStayOn, turns, turnsFrom, turnsAfter}
 use Rattle.order.proofs.Knows.{Tallied}
 use Rattle.order.proofs.Steps.{Ok}
 use Rattle.order.proofs.RowPut.{row-moved}
@@ -38,7 +38,7 @@ isEnqueue dequeue = false
 
 -- the futures of the pending calls, from the k-th pending place on, are flagged as the calls are
 abbrev pub FlaggedFrom : ℕ → List ℕ → List Future → List (Call ℕ) → Type 0
-FlaggedFrom k pending fs cs = (j : ℕ) (c : Call ℕ) → At cs j c → turnFuture pending (k + j) fs .enqueue ≡ isEnqueue c
+FlaggedFrom k pending fs cs = (j : ℕ) (c : Call ℕ) → At cs j c → pendingFuture pending (k + j) fs .enqueue ≡ isEnqueue c
 
 abbrev pub Flagged : List ℕ → List Future → List (Call ℕ) → Type 0
 Flagged pending fs cs = FlaggedFrom 0 pending fs cs
@@ -58,15 +58,15 @@ done-keeps (x ∷ fs) (suc i) (suc j) o = done-keeps fs i j o
 
 -- the flags of the first pending call, and of those after it once it is paid
 module _ (pending : List ℕ) (k : ℕ) (fs : List Future) (x : Call ℕ) (cs : List (Call ℕ)) (flagged : FlaggedFrom k pending fs (x ∷ cs)) where
-  pub flagged-now : turnFuture pending k fs .enqueue ≡ isEnqueue x
+  pub flagged-now : pendingFuture pending k fs .enqueue ≡ isEnqueue x
   unfolding at
-  flagged-now = subst (λ (p : ℕ). turnFuture pending p fs .enqueue ≡ isEnqueue x) (let z : k + 0 ≡ k = omega arith in z) (flagged 0 x refl)
+  flagged-now = subst (λ (p : ℕ). pendingFuture pending p fs .enqueue ≡ isEnqueue x) (let z : k + 0 ≡ k = omega arith in z) (flagged 0 x refl)
 
   pub flagged-later : (o : Outcome) → FlaggedFrom (k + 1) pending (withOutcome pending k fs o) cs
   unfolding at
   flagged-later o j y h =
       ap (λ (z : ℕ × Bool). z .1) (done-keeps fs _ _ o)
-      ∙ subst (λ (p : ℕ). turnFuture pending p fs .enqueue ≡ isEnqueue y) (let z : k + suc j ≡ k + 1 + j = omega arith in z) (flagged (suc j) y h)
+      ∙ subst (λ (p : ℕ). pendingFuture pending p fs .enqueue ≡ isEnqueue y) (let z : k + suc j ≡ k + 1 + j = omega arith in z) (flagged (suc j) y h)
 
 one-more-or-not : (b : Bool) (n : ℕ) (x : Call ℕ) (cs : List (Call ℕ)) → b ≡ isEnqueue x → n ≡ enqueues cs → cond b (suc n) n ≡ enqueues (x ∷ cs)
 unfolding enqueued

@@ -32,7 +32,8 @@ use Rattle.pairing.specs.declared.Paid.{Paid}
 use Rattle.pairing.specs.Pairing.{nodeBehind, sameLink, pay, payBatch, payDequeues}
 use Rattle.machine.specs.State.{noItem}
 use Rattle.order.specs.Outcomes.{outcomeOf}
-use Rattle.order.specs.PairingReads.{Turn, turnFuture, withOutcome, turns, batchCursor, dequeuesCursor}
+use Rattle.machine.specs.Pairing.{pendingFuture, withOutcome, batchCursor, dequeuesCursor}
+use Rattle.order.specs.PairingReads.{Turn, turns}
 use Rattle.order.proofs.Shared.{led, next}
 use Rattle.order.proofs.PairingWalks.{links-that-lead-alike, readBy, node-it-leads-to}
 use Rattle.order.proofs.PairingCounts.{isEnqueue, FlaggedFrom, Flagged, flagged-now, flagged-later}
@@ -199,7 +200,7 @@ module _ (links : List Cell) (chain : List ℕ) (linked : Chain (next links) cha
         )
 
     turn-gives : (s : Supply) (x : Call ℕ) (cs : List (Call ℕ)) (q : List ℕ) → Holds k fs node s (x ∷ cs) q
-        → Gives k fs x cs q (pay node s (turnFuture pending k fs .enqueue) (readBy links items last node s))
+        → Gives k fs x cs q (pay node s (pendingFuture pending k fs .enqueue) (readBy links items last node s))
     turn-gives (Batch link noneLeft) x cs q h =
         subst (λ (b : Bool). Gives k fs x cs q (payBatch node link noneLeft b (readBy links items last node (Batch link noneLeft)))) (sym (flagged-now pending k fs x cs (h .0)))
         (batch-gives link noneLeft cs (flagged-later pending k fs x cs (h .0)) x q (h .1))

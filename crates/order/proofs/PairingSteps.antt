@@ -14,7 +14,8 @@ use Rattle.machine.specs.declared.Machine.{Machine}
 use Rattle.machine.specs.State.{rowAt, memoryOf}
 use Rattle.machine.specs.Steps.{hop}
 use Rattle.order.proofs.Ghost.{Ghost, stepGhost}
-use Rattle.order.specs.PairingReads.{AllStayOn, batchCursor, turnsFrom, turnsAfter}
+use Rattle.machine.specs.Pairing.{batchCursor}
+use Rattle.order.specs.PairingReads.{AllStayOn, turnsFrom, turnsAfter}
 use Rattle.order.proofs.Shared.{sharedOf}
 use Rattle.order.proofs.Invariant.{Inv}
 use Rattle.order.proofs.Knows.{Tallied}

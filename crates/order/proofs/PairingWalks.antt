@@ -30,8 +30,8 @@ use Rattle.pairing.specs.declared.Cursor.{Cursor}
 use Rattle.pairing.specs.declared.Paid.{Paid}
 use Rattle.pairing.specs.declared.Around.{Around}
 use Rattle.pairing.specs.Pairing.{nodeBehind, sameLink, pay, payBatch, payDequeues, paid}
-use Rattle.machine.specs.Pairing.{around, pairFrom}
-use Rattle.order.specs.PairingReads.{Turn, withOutcome, turns, batchCursor, dequeuesCursor, LeadsTo, StaysOn, AllStayOn}
+use Rattle.machine.specs.Pairing.{around, pairFrom, withOutcome, batchCursor, dequeuesCursor}
+use Rattle.order.specs.PairingReads.{Turn, turns, LeadsTo, StaysOn, AllStayOn}
 use Rattle.order.proofs.Ghost.{Ghost}
 use Rattle.order.proofs.Shared.{Shared, led, next, link-to}
 use Rattle.order.proofs.Invariant.{Inv}

@@ -2,9 +2,8 @@
 -- call. Here are the turns that pairFrom of machine/specs/Pairing.antt makes, and what it means that a turn stays on the chain of linked nodes.
 use Prim.Native.Nat.{ℕ, zero, suc, _+_, _%_}
 use mathlib.Core.Path.{_≡_}
-use mathlib.Core.Bool.{Bool, true, false}
+use mathlib.Core.Bool.{Bool, true}
 use mathlib.Core.List.{List, [], _∷_}
-use lib.ListN.{getD, set}
 use Rattle.chain.specs.Positions.{At, In}
 use Rattle.cells.specs.declared.Cell.{Cell}
 use Rattle.cells.specs.declared.Link.{Link}
@@ -21,21 +20,14 @@ use Rattle.pairing.specs.declared.Supply.the-variants.{Batch, Dequeues}
 use Rattle.pairing.specs.declared.Cursor.{Cursor}
 use Rattle.pairing.specs.Pairing.{nextOf}
 use Rattle.machine.specs.declared.Machine.{Machine}
-use Rattle.machine.specs.State.{rowAt, noFuture}
-use Rattle.machine.specs.Pairing.{done, paidTo}
+use Rattle.machine.specs.State.{rowAt}
+use Rattle.machine.specs.Pairing.{paidTo, pendingFuture, withOutcome, batchCursor, dequeuesCursor}
 
 -- one turn: the cursor with which it reads, whether its call is an enqueue, and the result that it pays
 pub record Turn : Type 0 where
   pub cursor : Cursor
   pub enqueue : Bool
   pub outcome : Outcome
-
--- the k-th pending call's future
-abbrev pub turnFuture : List ℕ → ℕ → List Future → Future
-turnFuture pending k fs = getD fs (getD pending (k % 32) 0 % 512) noFuture
-
-abbrev pub withOutcome : List ℕ → ℕ → List Future → Outcome → List Future
-withOutcome pending k fs o = set fs (getD pending (k % 32) 0 % 512) (done (turnFuture pending k fs) o)
 
 abbrev pub turnOf : List Cell → List Item → ℕ → Cursor → Future → Turn
 turnOf links items last c f = record { cursor = c; enqueue = f .enqueue; outcome = paidTo links items last c f .outcome }
@@ -44,17 +36,10 @@ turnOf links items last c f = record { cursor = c; enqueue = f .enqueue; outcome
 unfoldable pub turns : ℕ → List Cell → List Item → ℕ → List ℕ → ℕ → List Future → Cursor → List Turn
 turns zero links items last pending k fs c = []
 turns (suc n) links items last pending k fs c =
-    turnOf links items last c (turnFuture pending k fs)
+    turnOf links items last c (pendingFuture pending k fs)
     ∷ turns n links items last pending (k + 1)
-    (withOutcome pending k fs (paidTo links items last c (turnFuture pending k fs) .outcome))
-    (paidTo links items last c (turnFuture pending k fs) .cursor)
-
--- where the two pairings begin: as `tell` of machine/specs/Steps.antt has them
-abbrev pub batchCursor : ℕ → ℕ → Cursor
-batchCursor from first = record { at = from; supply = Batch (To first) false }
-
-abbrev pub dequeuesCursor : ℕ → ℕ → Cursor
-dequeuesCursor from taken = record { at = from; supply = Dequeues taken }
+    (withOutcome pending k fs (paidTo links items last c (pendingFuture pending k fs) .outcome))
+    (paidTo links items last c (pendingFuture pending k fs) .cursor)
 
 -- the turns of pairing the pending calls of the thread whose row is i
 abbrev pub turnsFrom : Machine → ℕ → Cursor → List Turn
