@@ -29,6 +29,9 @@ sameHead (Plain a) (Announced b) = false
 sameHead (Announced a) (Plain b) = false
 sameHead (Announced a) (Announced b) = eqb a b
 
--- a head of no meaning, where none was set yet
+-- a head and a tail of no meaning, where none was set or read
 abbrev pub noFront : Front
 noFront = record { node = 0; count = record { 0 = 0 } }
+
+abbrev pub noTail : Tail
+noTail = record { node = 0; count = record { 0 = 0 } }

@@ -16,8 +16,8 @@ use Rattle.cells.specs.declared.Head.the-variants.{Plain, Announced}
 use Rattle.cells.specs.declared.Link.{Link}
 use Rattle.cells.specs.declared.Link.the-variants.{None, To}
 use Rattle.cells.specs.declared.Request.{Request}
-use Rattle.cells.specs.declared.Found.{Found}
-use Rattle.cells.specs.Found.{headIn, linkIn, takenIn}
+use Rattle.found.specs.declared.Found.{Found}
+use Rattle.found.specs.Found.{headIn, linkIn, takenIn}
 use Rattle.place.specs.declared.Place.{Place}
 use Rattle.place.specs.declared.Place.the-variants.{Idle, Enqueue, Dequeue, Batch, Dequeues, Running}
 use Rattle.place.specs.declared.Resume.{Resume}

@@ -11,8 +11,8 @@ use Rattle.cells.specs.declared.Cell.{Cell}
 use Rattle.cells.specs.declared.Link.{Link}
 use Rattle.cells.specs.declared.Link.the-variants.{None, To}
 use Rattle.cells.specs.declared.OldTail.the-variants.{Set}
-use Rattle.memory.specs.declared.Access.{Access}
-use Rattle.memory.specs.declared.Access.the-variants.{ReadHead, ReadTail, ReadLink, ReadOldTail, CasLink, CasTail, CasHead, WriteOldTail, Announce}
+use Rattle.access.specs.declared.Access.{Access}
+use Rattle.access.specs.declared.Access.the-variants.{ReadHead, ReadTail, ReadLink, ReadOldTail, CasLink, CasTail, CasHead, WriteOldTail, Announce}
 use Rattle.cells.specs.Ends.{sameTail, sameHead}
 use Rattle.memory.specs.Memory.{Memory, perform, linkCas, tailCas, headCas, withHead, withTail, withLink, withAnnouncement, cellAt, announcementAt, laidOver, noCell}
 use Rattle.laws.specs.Changes.{Touches}

@@ -6,8 +6,8 @@ use Rattle.cells.specs.declared.Tail.{Tail}
 use Rattle.cells.specs.declared.Head.{Head}
 use Rattle.cells.specs.declared.Link.{Link}
 use Rattle.cells.specs.declared.OldTail.{OldTail}
-use Rattle.memory.specs.declared.Access.{Access}
-use Rattle.memory.specs.declared.Access.the-variants.{ReadHead, ReadTail, ReadLink, ReadOldTail, CasLink, CasTail, CasHead, WriteOldTail, Announce}
+use Rattle.access.specs.declared.Access.{Access}
+use Rattle.access.specs.declared.Access.the-variants.{ReadHead, ReadTail, ReadLink, ReadOldTail, CasLink, CasTail, CasHead, WriteOldTail, Announce}
 use Rattle.memory.specs.Memory.{Memory, withHead, withTail, withLink, withAnnouncement, announcementAt, laidOver}
 use Rattle.row.specs.declared.Row.{Row}
 use Rattle.thread.specs.Calls.{access}

@@ -14,6 +14,7 @@ use Rattle.answer.specs.declared.Verdict.the-variants.{Accepted, Refused}
 use Rattle.entry.specs.declared.Entry.{Entry}
 use Rattle.entry.specs.declared.Entry.the-variants.{Enqueue, Dequeue, FutureEnqueue, FutureDequeue, Evaluate, Step, Run}
 use Rattle.entry.specs.Operands.{threadOf, futureOf}
+use Rattle.needs.specs.Needs.{lacking, evaluateNeeds}
 use Rattle.refuse.specs.Refusals.{first, callable, foreign, waitingVerdict, ownVerdict, verdict}
 use Rattle.machine.specs.declared.Machine.{Machine}
 use Rattle.machine.specs.declared.Told.{Told}
@@ -30,20 +31,24 @@ unfolding decided
 test-before true r w m x = refl
 test-before false r w m x = refl
 
+-- what the batch of a thread's pending calls lacks
+abbrev lackingAt : Machine → ℕ → Verdict
+lackingAt m i = lacking (evaluateNeeds (rowAt m i)) (m .used) (m .nodes) (rowAt m i .count)
+
 -- Evaluate of an own future tests what its batch needs only where it waits
-own-decided : (m : Machine) (i f : ℕ) (o : Outcome) → evaluateOwn m i f o ≡ decided (waitingVerdict o (rowAt m i) (m .used) (m .nodes)) m (asked m i f o)
+own-decided : (m : Machine) (i f : ℕ) (o : Outcome) → evaluateOwn m i f o ≡ decided (waitingVerdict o (lackingAt m i)) m (asked m i f o)
 unfolding evaluateOwn evaluateWaiting decided asked
 own-decided m i f outcome.Waiting = refl
 own-decided m i f outcome.Ok = refl
 own-decided m i f (outcome.Item v) = refl
 own-decided m i f outcome.Empty = refl
 
-known-decided : (m : Machine) (t f : ℕ) (x : Future) → evaluateKnown m t f x ≡ decided (ownVerdict t f (rowAt m (t % 8)) (m .used) (m .nodes) x) m (asked m (t % 8) (f % 512) (x .outcome))
+known-decided : (m : Machine) (t f : ℕ) (x : Future) → evaluateKnown m t f x ≡ decided (ownVerdict t f (m .used .futures) x (lackingAt m (t % 8))) m (asked m (t % 8) (f % 512) (x .outcome))
 unfolding evaluateKnown
 known-decided m t f x =
     let other : Bool = foreign f (x .owner) (m .used .futures) t in
     ap (cond other (refusing m NotOwnFuture)) (own-decided m (t % 8) (f % 512) (x .outcome))
-    ∙ test-before other NotOwnFuture (waitingVerdict (x .outcome) (rowAt m (t % 8)) (m .used) (m .nodes)) m (asked m (t % 8) (f % 512) (x .outcome))
+    ∙ test-before other NotOwnFuture (waitingVerdict (x .outcome) (lackingAt m (t % 8))) m (asked m (t % 8) (f % 512) (x .outcome))
 
 abbrev verdictOn : Machine → Entry → ℕ → ℕ → Verdict
 verdictOn m e t f = verdict e (m .threads) (m .nodes) (m .used) (rowAt m t) (futureAt m f)
@@ -58,7 +63,7 @@ entry-decided m (Evaluate t f) =
     let here : Verdict = callable t (m .threads) (rowAt m (t % 8) .place) in
     let x : Future = futureAt m f in
     ap (decided here m) (known-decided m t f x)
-    ∙ two-tests here (ownVerdict t f (rowAt m (t % 8)) (m .used) (m .nodes) x) m (asked m (t % 8) (f % 512) (x .outcome))
+    ∙ two-tests here (ownVerdict t f (m .used .futures) x (lackingAt m (t % 8))) m (asked m (t % 8) (f % 512) (x .outcome))
 entry-decided m (Step t) = refl
 entry-decided m (Run t n) = refl
 

@@ -3,10 +3,11 @@
 use Prim.Native.Nat.{ℕ}
 use mathlib.Core.Path.{_≡_, ap}
 use lib.ListN.{getD, set}
-use Rattle.memory.specs.declared.Access.{Access}
+use Rattle.access.specs.declared.Access.{Access}
 use Rattle.memory.specs.declared.Hit.{Hit}
 use Rattle.memory.specs.Memory.{Performed, noCell, noAnnouncement}
-use Rattle.memory.specs.Reach.{nodeOf, announcementOf, on}
+use Rattle.access.specs.Reach.{nodeOf, announcementOf}
+use Rattle.memory.specs.Made.{on}
 use Rattle.memory.proofs.Performs.{performs}
 use Rattle.place.specs.declared.Place.{Place}
 use Rattle.place.specs.declared.After.{After}

@@ -25,11 +25,12 @@ use Rattle.machine.specs.declared.Told.{Told}
 use Rattle.machine.specs.declared.Machine.{Machine}
 use Rattle.entry.specs.declared.Entry.{Entry}
 use Rattle.entry.specs.declared.Entry.the-variants.{Enqueue, Dequeue, FutureEnqueue, FutureDequeue, Evaluate, Step, Run}
-use Rattle.refuse.specs.declared.Needs.{Needs}
+use Rattle.needs.specs.declared.Needs.{Needs}
 use Rattle.machine.specs.State.{rowAt, withRow, futureAt}
 use Rattle.next.specs.Next.{nextNode, nextFuture, nextAnnouncement}
 use Rattle.machine.specs.HandOut.{handOutNode, handOutFuture, handOutAnnouncement}
-use Rattle.refuse.specs.Refusals.{callable, steppable, foreign, lacking, callVerdict, enqueueNeeds, dequeueNeeds, futureEnqueueNeeds, futureDequeueNeeds, evaluateNeeds}
+use Rattle.needs.specs.Needs.{lacking, enqueueNeeds, dequeueNeeds, futureEnqueueNeeds, futureDequeueNeeds, evaluateNeeds}
+use Rattle.refuse.specs.Refusals.{callable, steppable, foreign, callVerdict}
 use Rattle.machine.specs.Steps.{advance}
 
 -- only the number is returned, and the machine stays unchanged
@@ -66,12 +67,13 @@ deferEnqueue m i v =
 unfoldable pub deferDequeue : Machine → ℕ → Machine
 deferDequeue m i = withRow (handOutFuture m i false) i (withDequeue (rowAt m i) (nextFuture (m .used)))
 
--- the pending calls are set off as one batch, whose answer will be the result of the future f; one with an enqueue is handed its announcement
+-- a batch with an enqueue is handed its announcement
+abbrev pub announced : Machine → ℕ → Row → ℕ → Machine
+announced m i r f = withRow (handOutAnnouncement m (request r)) i (calling r (place.Batch (nextAnnouncement (m .used)) B1) f)
+
+-- the pending calls are set off as one batch, whose answer will be the result of the future f
 unfoldable pub setOff : Machine → ℕ → ℕ → Machine
-setOff m i f =
-    cond (eqb (rowAt m i .tally .enqueues) 0)
-    (withRow m i (calling (rowAt m i) (place.Dequeues Q1) f))
-    (withRow (handOutAnnouncement m (request (rowAt m i))) i (calling (rowAt m i) (place.Batch (nextAnnouncement (m .used)) B1) f))
+setOff m i f = cond (eqb (rowAt m i .tally .enqueues) 0) (withRow m i (calling (rowAt m i) (place.Dequeues Q1) f)) (announced m i (rowAt m i) f)
 
 -- with pending calls, Enqueue and Dequeue first add themselves as a deferred call, then act as Evaluate of it
 unfoldable pub startEnqueue : Machine → ℕ → Item → Machine

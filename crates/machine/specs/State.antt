@@ -1,4 +1,4 @@
--- 01, "What the machine is": the machine's parts, the fresh machine, and set-up with refusal 9.
+-- 01, "What the machine is": the machine's parts, and the fresh machine.
 use Prim.Native.Nat.{ℕ, _%_}
 use mathlib.Core.Bool.{false}
 use mathlib.Core.List.{List}
@@ -6,16 +6,13 @@ use lib.ListN.{getD, set, replicate}
 use Rattle.cells.specs.declared.Ends.{Ends}
 use Rattle.cells.specs.declared.Head.the-variants.{Plain}
 use Rattle.memory.specs.Memory.{Memory, noCell, noAnnouncement}
-use Rattle.cells.specs.Ends.{noFront}
-use Rattle.cells.specs.Found.{noTail}
+use Rattle.cells.specs.Ends.{noFront, noTail}
 use Rattle.row.specs.declared.Row.{Row}
 use Rattle.row.specs.Row.{freshRow, noRow}
 use Rattle.answer.specs.declared.Item.{Item}
 use Rattle.answer.specs.declared.Future.{Future}
 use Rattle.answer.specs.declared.Outcome.the-variants.{Waiting}
-use Rattle.entry.specs.Range.{inRange}
 use Rattle.machine.specs.declared.Machine.{Machine}
-use Rattle.machine.specs.declared.SetUp.{SetUp}
 
 abbrev pub noItem : Item
 noItem = record { value = 0 }
@@ -39,9 +36,6 @@ freshMachine threads nodes = record {
   nodes = nodes;
   used = record { nodes = 1; futures = 0; announcements = 0 };
 }
-
-abbrev pub setUp : ℕ → ℕ → SetUp
-setUp threads nodes = record { verdict = inRange threads nodes; machine = freshMachine threads nodes }
 
 -- the cells that steps access
 abbrev pub memoryOf : Machine → Memory

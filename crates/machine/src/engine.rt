@@ -59,7 +59,7 @@ impl Machine {
             let ends = self.ends;
             let cell = self.links[node];
             let reached = self.announcements[other];
-            let hit = access.on(ends, cell, reached);
+            let hit = memory::made(access, ends, cell, reached);
             let found = hit.found;
             let cells = hit.cells;
             let new_ends = cells.ends;

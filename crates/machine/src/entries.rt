@@ -1,7 +1,7 @@
 // The entries of 01: one verdict by the refusal table, and what an accepted entry starts.
 ghost use mathlib.Core.Path.{_≡_};
 ghost use Prim.Native.Nat.{_<_, _%_};
-ghost use Rattle.machine.specs.Entries.{refusing, telling, linkedBehind, deferEnqueue, deferDequeue, setOff, startEnqueue, startDequeue, apply, asked, accepted};
+ghost use Rattle.machine.specs.Entries.{refusing, telling, linkedBehind, deferEnqueue, deferDequeue, announced, setOff, startEnqueue, startDequeue, apply, asked, accepted};
 use crate::Machine;
 use crate::Told;
 use answer::Answer;
@@ -84,8 +84,18 @@ impl Machine {
         with_future.with_row(at, row.with_dequeue(used.next_future()))
     }
 
-    // Evaluate of a future that is not done: the whole pending list is set off as a batch. One with an
-    // enqueue is handed its announcement here.
+    // A batch with an enqueue is handed its announcement.
+    fn announce(self, at: usize, row: Row, future: u16) -> Machine
+        requires { ⌜ at < 8 ⌝ }
+        ensures { λ r. ⌜ r ≡ announced self at row future ⌝ }
+    {
+        let used = self.used;
+        let own = used.next_announcement();
+        let announcing = self.hand_out_announcement(row.request());
+        announcing.with_row(at, row.calling(Place::Batch(own, BatchStep::B1), future))
+    }
+
+    // Evaluate of a future that is not done: the whole pending list is set off as a batch.
     fn set_off(self, at: usize, future: u16) -> Machine
         requires { ⌜ at < 8 ⌝ }
         ensures { λ r. ⌜ r ≡ setOff self at future ⌝ }
@@ -93,13 +103,9 @@ impl Machine {
         let row = self.row_at(at);
         let tally = row.tally;
         if tally.enqueues == 0 {
-            let calling = row.calling(Place::Dequeues(DequeuesStep::Q1), future);
-            return self.with_row(at, calling);
+            return self.with_row(at, row.calling(Place::Dequeues(DequeuesStep::Q1), future));
         }
-        let used = self.used;
-        let own = used.next_announcement();
-        let announcing = self.hand_out_announcement(row.request());
-        announcing.with_row(at, row.calling(Place::Batch(own, BatchStep::B1), future))
+        self.announce(at, row, future)
     }
 
     // Enqueue, accepted.

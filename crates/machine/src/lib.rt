@@ -10,14 +10,13 @@ pub mod hand_out;
 pub mod pair;
 
 ghost use mathlib.Core.Path.{_≡_};
-ghost use Rattle.machine.specs.State.{endsAtTheDummy, freshMachine, setUp, rowAt, itemAt, futureAt, withRow};
+ghost use Rattle.machine.specs.State.{endsAtTheDummy, freshMachine, rowAt, itemAt, futureAt, withRow};
 ghost use Prim.Native.Nat.{_<_};
 ghost use Rattle.memory.specs.Memory.{noAnnouncement};
 use answer::Answer;
 use answer::Future;
 use answer::Item;
 use answer::Outcome;
-use answer::Verdict;
 use cells::Announcement;
 use cells::Cell;
 use cells::DequeueCount;
@@ -45,12 +44,6 @@ pub struct Machine {
     pub threads: u32,
     pub nodes: u32,
     pub used: Used,
-}
-
-// What set-up answers; the machine counts only where it is accepted.
-pub struct SetUp {
-    pub verdict: Verdict,
-    pub machine: Machine,
 }
 
 // The machine after an entry, its answer, and the steps that it took.
@@ -93,16 +86,6 @@ impl Machine {
                 futures: 0,
                 announcements: 0,
             },
-        }
-    }
-
-    // A fresh machine for 1 to 8 threads and 2 to 512 nodes. Refused: SetupOutOfRange.
-    pub fn set_up(threads: u32, nodes: u32) -> SetUp
-        ensures { λ r. ⌜ r ≡ setUp threads nodes ⌝ }
-    {
-        SetUp {
-            verdict: entry::in_range(threads, nodes),
-            machine: Machine::fresh(threads, nodes),
         }
     }
 

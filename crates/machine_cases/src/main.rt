@@ -56,7 +56,7 @@ impl Session {
 
     // A new machine; the one before where it is refused.
     fn set_up(self, threads: u32, nodes: u32) -> Session {
-        let made = Machine::set_up(threads, nodes);
+        let made = set_up::of(threads, nodes);
         let verdict = made.verdict;
         match verdict {
             Verdict::Refused(refusal) => {

@@ -9,12 +9,13 @@ use Rattle.cells.specs.declared.Head.{Head}
 use Rattle.cells.specs.declared.Head.the-variants.{Plain, Announced}
 use Rattle.cells.specs.declared.Link.{Link}
 use Rattle.cells.specs.declared.Link.the-variants.{None, To}
-use Rattle.memory.specs.declared.Access.{Access}
-use Rattle.memory.specs.declared.Access.the-variants.{ReadHead, ReadTail, ReadLink, ReadOldTail, CasLink, CasTail, CasHead, WriteOldTail, Announce}
+use Rattle.access.specs.declared.Access.{Access}
+use Rattle.access.specs.declared.Access.the-variants.{ReadHead, ReadTail, ReadLink, ReadOldTail, CasLink, CasTail, CasHead, WriteOldTail, Announce}
 use Rattle.memory.specs.declared.Hit.{Hit}
 use Rattle.cells.specs.Ends.{sameTail, sameHead}
 use Rattle.memory.specs.Memory.{Memory, Performed, perform, linkCas, tailCas, headCas, withAnnouncement, laidOver, cellAt, announcementAt}
-use Rattle.memory.specs.Reach.{nodeOf, announcementOf, on, casLink, tailHit, headHit, withThe, reached, putBack}
+use Rattle.access.specs.Reach.{nodeOf, announcementOf}
+use Rattle.memory.specs.Made.{on, casLink, tailHit, headHit, withThe, reached, putBack}
 
 abbrev put : Memory → Access → Hit → Performed
 put m x h = record { memory = putBack m x (h .cells); found = h .found }

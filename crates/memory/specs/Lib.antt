@@ -1,2 +1,2 @@
 pub mod Memory
-pub mod Reach
+pub mod Made

@@ -16,10 +16,10 @@ use Rattle.cells.specs.declared.Cell.{Cell}
 use Rattle.cells.specs.declared.OldTail.{OldTail}
 use Rattle.cells.specs.declared.OldTail.the-variants.{Unset, Set}
 use Rattle.cells.specs.declared.Announcement.{Announcement}
-use Rattle.memory.specs.declared.Access.{Access}
-use Rattle.memory.specs.declared.Access.the-variants.{ReadHead, ReadTail, ReadLink, ReadOldTail, CasLink, CasTail, CasHead, WriteOldTail, Announce}
-use Rattle.cells.specs.declared.Found.{Found}
-use Rattle.cells.specs.declared.Found.the-variants as found
+use Rattle.access.specs.declared.Access.{Access}
+use Rattle.access.specs.declared.Access.the-variants.{ReadHead, ReadTail, ReadLink, ReadOldTail, CasLink, CasTail, CasHead, WriteOldTail, Announce}
+use Rattle.found.specs.declared.Found.{Found}
+use Rattle.found.specs.declared.Found.the-variants as found
 use Rattle.cells.specs.Ends.{noFront, sameTail, sameHead}
 
 pub record Memory : Type 0 where

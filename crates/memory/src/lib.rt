@@ -1,31 +1,18 @@
 // Shared memory, and the one access that a step makes of it (01, "Steps": one step is one access). A thread
-// never touches a cell: it says which access it makes, and `on` makes it.
+// never touches a cell: it says which access it makes, and `made` makes it.
 ghost use mathlib.Core.Path.{_≡_};
-ghost use Prim.Native.Nat.{_<_};
-ghost use Rattle.memory.specs.Reach.{nodeOf, announcementOf, on, casLink, casTail, casHead, writeOldTail, announce};
+ghost use Rattle.memory.specs.Made.{on, casLink, casTail, casHead, writeOldTail, announce};
+use access::Access;
 use cells::Announcement;
 use cells::Cell;
 use cells::Ends;
-use cells::Found;
 use cells::Front;
 use cells::Head;
 use cells::Link;
 use cells::OldTail;
 use cells::Request;
 use cells::Tail;
-
-// One access. A link is only ever compared with none and swapped.
-pub enum Access {
-    ReadHead,
-    ReadTail,
-    ReadLink { node: u16 },
-    ReadOldTail { of: u8 },
-    CasLink { node: u16, to: u16 },
-    CasTail { was: Tail, to: Tail },
-    CasHead { was: Head, to: Front },
-    WriteOldTail { of: u8, tail: Tail },
-    Announce { own: u8, was: Front },
-}
+use found::Found;
 
 // The cells that one access can reach: both ends, one link, one announcement.
 pub struct Cells {
@@ -39,68 +26,31 @@ pub struct Hit {
     pub found: Found,
 }
 
-// The remainders make every access total; no reachable machine holds a node from 512 or an
-// announcement from 64 on.
-impl Access {
-    // The node whose link the access reaches.
-    pub fn node(self) -> usize
-        ensures { λ r. ⌜ (r ≡ nodeOf self) × (r < 512) ⌝ }
-    {
-        match self {
-            Access::ReadLink { node } => (node % Cell::NODES) as usize,
-            Access::CasLink { node, to: _ } => (node % Cell::NODES) as usize,
-            Access::ReadHead => 0,
-            Access::ReadTail => 0,
-            Access::ReadOldTail { of: _ } => 0,
-            Access::CasTail { was: _, to: _ } => 0,
-            Access::CasHead { was: _, to: _ } => 0,
-            Access::WriteOldTail { of: _, tail: _ } => 0,
-            Access::Announce { own: _, was: _ } => 0,
-        }
-    }
+// The access made on the cells that it reaches.
+pub fn made(access: Access, ends: Ends, cell: Cell, announcement: Announcement) -> Hit
+    ensures { λ r. ⌜ r ≡ on access (record { ends = ends; cell = cell; announcement = announcement }) ⌝ }
+{
+    let cells = Cells {
+        ends,
+        cell,
+        announcement,
+    };
+    on_cells(access, cells)
+}
 
-    // The announcement that the access reaches.
-    pub fn announcement(self) -> usize
-        ensures { λ r. ⌜ (r ≡ announcementOf self) × (r < 64) ⌝ }
-    {
-        match self {
-            Access::ReadOldTail { of } => (of % Announcement::ANNOUNCEMENTS) as usize,
-            Access::WriteOldTail { of, tail: _ } => (of % Announcement::ANNOUNCEMENTS) as usize,
-            Access::Announce { own, was: _ } => (own % Announcement::ANNOUNCEMENTS) as usize,
-            Access::ReadHead => 0,
-            Access::ReadTail => 0,
-            Access::ReadLink { node: _ } => 0,
-            Access::CasLink { node: _, to: _ } => 0,
-            Access::CasTail { was: _, to: _ } => 0,
-            Access::CasHead { was: _, to: _ } => 0,
-        }
-    }
-
-    // The access made on the cells that it reaches.
-    pub fn on(self, ends: Ends, cell: Cell, announcement: Announcement) -> Hit
-        ensures { λ r. ⌜ r ≡ on self (record { ends = ends; cell = cell; announcement = announcement }) ⌝ }
-    {
-        self.on_cells(Cells {
-            ends,
-            cell,
-            announcement,
-        })
-    }
-
-    fn on_cells(self, cells: Cells) -> Hit
-        ensures { λ r. ⌜ r ≡ on self cells ⌝ }
-    {
-        match self {
-            Access::ReadHead => cells.read_head(),
-            Access::ReadTail => cells.read_tail(),
-            Access::ReadLink { node: _ } => cells.read_link(),
-            Access::ReadOldTail { of: _ } => cells.read_old_tail(),
-            Access::CasLink { node: _, to } => cells.cas_link(to),
-            Access::CasTail { was, to } => cells.cas_tail(was, to),
-            Access::CasHead { was, to } => cells.cas_head(was, Head::Plain(to)),
-            Access::WriteOldTail { of: _, tail } => cells.write_old_tail(tail),
-            Access::Announce { own, was } => cells.announce(own, was),
-        }
+fn on_cells(access: Access, cells: Cells) -> Hit
+    ensures { λ r. ⌜ r ≡ on access cells ⌝ }
+{
+    match access {
+        Access::ReadHead => cells.read_head(),
+        Access::ReadTail => cells.read_tail(),
+        Access::ReadLink { node: _ } => cells.read_link(),
+        Access::ReadOldTail { of: _ } => cells.read_old_tail(),
+        Access::CasLink { node: _, to } => cells.cas_link(to),
+        Access::CasTail { was, to } => cells.cas_tail(was, to),
+        Access::CasHead { was, to } => cells.cas_head(was, Head::Plain(to)),
+        Access::WriteOldTail { of: _, tail } => cells.write_old_tail(tail),
+        Access::Announce { own, was } => cells.announce(own, was),
     }
 }
 

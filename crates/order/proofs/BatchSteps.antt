@@ -5,10 +5,10 @@ use mathlib.Core.Bool.{Bool, true, false, cond}
 use Rattle.cells.specs.declared.Front.{Front}
 use Rattle.cells.specs.declared.Head.{Head}
 use Rattle.cells.specs.declared.Head.the-variants.{Plain, Announced}
-use Rattle.cells.specs.declared.Found.the-variants as found
+use Rattle.found.specs.declared.Found.the-variants as found
 use Rattle.cells.specs.Ends.{sameHead}
 use Rattle.memory.specs.Memory.{Memory, announcementAt, laidOver, withAnnouncement, headCas, perform}
-use Rattle.cells.specs.Found.{takenIn}
+use Rattle.found.specs.Found.{takenIn}
 use Rattle.place.specs.declared.BatchStep.{BatchStep}
 use Rattle.place.specs.declared.BatchStep.the-variants.{B1, B2}
 use Rattle.thread.specs.Batch.{batchAccess, batchAfter, afterB1, afterB2}

@@ -19,7 +19,7 @@ use Rattle.cells.specs.declared.Link.{Link}
 use Rattle.cells.specs.declared.Link.the-variants.{None, To}
 use Rattle.cells.specs.Ends.{pastFront, sameHead}
 use Rattle.memory.specs.Memory.{cellAt, withHead, headCas, perform}
-use Rattle.cells.specs.Found.{takenIn}
+use Rattle.found.specs.Found.{takenIn}
 use Rattle.place.specs.declared.DequeueStep.{DequeueStep}
 use Rattle.place.specs.declared.DequeueStep.the-variants.{D1, D2, D3}
 use Rattle.place.specs.declared.After.{After}

@@ -13,7 +13,7 @@ use Rattle.cells.specs.declared.Head.{Head}
 use Rattle.cells.specs.declared.Head.the-variants.{Plain, Announced}
 use Rattle.cells.specs.declared.Link.{Link}
 use Rattle.cells.specs.declared.Link.the-variants.{None, To}
-use Rattle.cells.specs.declared.Found.the-variants as found
+use Rattle.found.specs.declared.Found.the-variants as found
 use Rattle.cells.specs.Ends.{up, pastFront, sameHead}
 use Rattle.memory.specs.Memory.{cellAt, perform}
 use Rattle.place.specs.declared.DequeueStep.{DequeueStep}

@@ -24,7 +24,7 @@ use Rattle.cells.specs.declared.Link.{Link}
 use Rattle.cells.specs.declared.Link.the-variants.{None, To}
 use Rattle.cells.specs.Ends.{pastFront, sameHead}
 use Rattle.memory.specs.Memory.{cellAt, withHead, headCas, perform}
-use Rattle.cells.specs.Found.{takenIn}
+use Rattle.found.specs.Found.{takenIn}
 use Rattle.place.specs.declared.Walk.{Walk}
 use Rattle.place.specs.declared.DequeuesStep.{DequeuesStep}
 use Rattle.place.specs.declared.DequeuesStep.the-variants.{Q1, Q2, Q3}

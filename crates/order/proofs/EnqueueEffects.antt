@@ -16,7 +16,7 @@ use Rattle.cells.specs.declared.Link.{Link}
 use Rattle.cells.specs.declared.Link.the-variants.{None, To}
 use Rattle.cells.specs.Ends.{pastTail, sameTail}
 use Rattle.memory.specs.Memory.{Memory, cellAt, withLink, linkCas, perform}
-use Rattle.cells.specs.Found.{linkIn}
+use Rattle.found.specs.Found.{linkIn}
 use Rattle.place.specs.declared.EnqueueStep.{EnqueueStep}
 use Rattle.place.specs.declared.EnqueueStep.the-variants.{E1, E2, E3, E4, E5}
 use Rattle.place.specs.declared.After.the-variants as afterwards

@@ -16,10 +16,10 @@ use Rattle.cells.specs.declared.Head.{Head}
 use Rattle.cells.specs.declared.Head.the-variants.{Plain, Announced}
 use Rattle.cells.specs.declared.Link.{Link}
 use Rattle.cells.specs.declared.Link.the-variants.{None, To}
-use Rattle.cells.specs.declared.Found.the-variants as found
+use Rattle.found.specs.declared.Found.the-variants as found
 use Rattle.cells.specs.Ends.{pastTail, sameTail}
 use Rattle.memory.specs.Memory.{cellAt, linkCas, perform}
-use Rattle.cells.specs.Found.{linkIn}
+use Rattle.found.specs.Found.{linkIn}
 use Rattle.place.specs.declared.After.the-variants as afterwards
 use Rattle.place.specs.declared.EnqueueStep.{EnqueueStep}
 use Rattle.place.specs.declared.EnqueueStep.the-variants.{E1, E2, E3, E4, E5}

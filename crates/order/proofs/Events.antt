@@ -23,9 +23,10 @@ use Rattle.answer.specs.declared.Verdict.{Verdict}
 use Rattle.answer.specs.declared.Verdict.the-variants.{Accepted, Refused}
 use Rattle.entry.specs.declared.Entry.{Entry}
 use Rattle.entry.specs.declared.Entry.the-variants as entry
-use Rattle.refuse.specs.declared.Needs.{Needs}
+use Rattle.needs.specs.declared.Needs.{Needs}
 use Rattle.next.specs.Next.{nextNode, nextFuture}
-use Rattle.refuse.specs.Refusals.{steppable, lacking, callVerdict, enqueueNeeds, dequeueNeeds, futureEnqueueNeeds, futureDequeueNeeds, evaluateNeeds, some}
+use Rattle.needs.specs.Needs.{lacking, enqueueNeeds, dequeueNeeds, futureEnqueueNeeds, futureDequeueNeeds, evaluateNeeds, some}
+use Rattle.refuse.specs.Refusals.{steppable, callVerdict}
 use Rattle.answer.specs.Verdicts.{whereAccepted}
 use Rattle.refuse.proofs.Accepted.{Left, callable-is-below, callable-is-idle, nothing-lacks, call-accepted}
 use Rattle.machine.specs.declared.Machine.{Machine}

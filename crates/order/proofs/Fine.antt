@@ -8,11 +8,11 @@ use Rattle.chain.specs.Positions.{At, In}
 use Rattle.cells.specs.declared.Tail.{Tail}
 use Rattle.cells.specs.declared.Front.{Front}
 use Rattle.cells.specs.declared.Head.the-variants.{Plain}
-use Rattle.cells.specs.declared.Found.{Found}
-use Rattle.cells.specs.declared.Found.the-variants as found
+use Rattle.found.specs.declared.Found.{Found}
+use Rattle.found.specs.declared.Found.the-variants as found
 use Rattle.cells.specs.Ends.{pastTail, sameTail, sameHead}
 use Rattle.memory.specs.Memory.{Memory, Performed, reads, tailCas, headCas}
-use Rattle.cells.specs.Found.{takenIn}
+use Rattle.found.specs.Found.{takenIn}
 use Rattle.place.specs.declared.After.{After}
 use Rattle.place.specs.declared.After.the-variants as afterwards
 use Rattle.row.specs.declared.Row.{Row}

@@ -21,7 +21,8 @@ use Rattle.entry.specs.declared.Entry.{Entry}
 use Rattle.entry.specs.declared.Entry.the-variants as entry
 use Rattle.answer.specs.Answer.{answered}
 use Rattle.entry.specs.Range.{inRange}
-use Rattle.refuse.specs.Refusals.{foreign, lacking, evaluateNeeds}
+use Rattle.needs.specs.Needs.{lacking, evaluateNeeds}
+use Rattle.refuse.specs.Refusals.{foreign}
 use Rattle.answer.specs.Verdicts.{whereAccepted}
 use Rattle.machine.specs.declared.Machine.{Machine}
 use Rattle.machine.specs.declared.Told.{Told}

@@ -27,7 +27,7 @@ use Rattle.cells.specs.declared.Link.the-variants.{None, To}
 use Rattle.cells.specs.declared.Announcement.{Announcement}
 use Rattle.cells.specs.Ends.{pastFront, pastTail, sameHead, sameTail}
 use Rattle.memory.specs.Memory.{Memory, cellAt, announcementAt, noAnnouncement, withHead, withLink, withAnnouncement, laidOver, linkCas, headCas, perform}
-use Rattle.cells.specs.Found.{linkIn, takenIn}
+use Rattle.found.specs.Found.{linkIn, takenIn}
 use Rattle.place.specs.declared.Resume.{Resume}
 use Rattle.place.specs.declared.Resume.the-variants as resume
 use Rattle.place.specs.declared.BatchStep.{BatchStep}

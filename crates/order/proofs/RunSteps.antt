@@ -19,11 +19,11 @@ use Rattle.cells.specs.declared.Head.the-variants.{Plain, Announced}
 use Rattle.cells.specs.declared.Link.{Link}
 use Rattle.cells.specs.declared.Link.the-variants.{None, To}
 use Rattle.cells.specs.declared.OldTail.the-variants.{Set}
-use Rattle.cells.specs.declared.Found.{Found}
-use Rattle.cells.specs.declared.Found.the-variants as found
+use Rattle.found.specs.declared.Found.{Found}
+use Rattle.found.specs.declared.Found.the-variants as found
 use Rattle.cells.specs.Ends.{pastTail, pastFront, sameTail, sameHead}
 use Rattle.memory.specs.Memory.{cellAt, announcementAt, reads, linkCas, tailCas, headCas, perform}
-use Rattle.cells.specs.Found.{linkIn}
+use Rattle.found.specs.Found.{linkIn}
 use Rattle.place.specs.declared.Resume.{Resume}
 use Rattle.place.specs.declared.Resume.the-variants as resume
 use Rattle.place.specs.declared.RunStep.{RunStep}

@@ -17,7 +17,7 @@ use Rattle.cells.specs.declared.Tail.{Tail}
 use Rattle.cells.specs.declared.Link.{Link}
 use Rattle.cells.specs.declared.Link.the-variants.{None, To}
 use Rattle.cells.specs.declared.Request.{Request}
-use Rattle.cells.specs.declared.Found.the-variants as found
+use Rattle.found.specs.declared.Found.the-variants as found
 use Rattle.cells.specs.Ends.{sameHead}
 use Rattle.memory.specs.Memory.{Memory, perform, cellAt, noAnnouncement}
 use Rattle.place.specs.declared.Place.{Place}

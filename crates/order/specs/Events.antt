@@ -14,9 +14,10 @@ use Rattle.answer.specs.declared.Outcome.{Outcome}
 use Rattle.answer.specs.declared.Outcome.the-variants as outcome
 use Rattle.entry.specs.declared.Entry.{Entry}
 use Rattle.entry.specs.declared.Entry.the-variants as entry
-use Rattle.refuse.specs.declared.Needs.{Needs}
+use Rattle.needs.specs.declared.Needs.{Needs}
 use Rattle.next.specs.Next.{nextNode, nextFuture}
-use Rattle.refuse.specs.Refusals.{callable, steppable, foreign, lacking, callVerdict, enqueueNeeds, dequeueNeeds, futureEnqueueNeeds, futureDequeueNeeds, evaluateNeeds}
+use Rattle.needs.specs.Needs.{lacking, enqueueNeeds, dequeueNeeds, futureEnqueueNeeds, futureDequeueNeeds, evaluateNeeds}
+use Rattle.refuse.specs.Refusals.{callable, steppable, foreign, callVerdict}
 use Rattle.answer.specs.Verdicts.{whereAccepted}
 use Rattle.machine.specs.declared.Machine.{Machine}
 use Rattle.machine.specs.State.{rowAt, withRow, futureAt}

@@ -13,8 +13,9 @@ use Rattle.answer.specs.declared.Verdict.{Verdict}
 use Rattle.answer.specs.declared.Verdict.the-variants.{Accepted, Refused}
 use Rattle.answer.proofs.Verdicts.{not-refused}
 use Rattle.next.specs.declared.Used.{Used}
-use Rattle.refuse.specs.declared.Needs.{Needs}
-use Rattle.refuse.specs.Refusals.{first, callable, short, lacking, callVerdict}
+use Rattle.needs.specs.declared.Needs.{Needs}
+use Rattle.needs.specs.Needs.{short, lacking}
+use Rattle.refuse.specs.Refusals.{first, callable, callVerdict}
 
 both-accepted : (v w : Verdict) → first v w ≡ Accepted → (v ≡ Accepted) × (w ≡ Accepted)
 both-accepted Accepted w e = (refl, e)

@@ -11,11 +11,11 @@ use Rattle.cells.specs.declared.Link.the-variants.{None, To}
 use Rattle.cells.specs.declared.OldTail.{OldTail}
 use Rattle.cells.specs.declared.OldTail.the-variants.{Unset, Set}
 use Rattle.cells.specs.declared.Request.{Request}
-use Rattle.memory.specs.declared.Access.{Access}
-use Rattle.memory.specs.declared.Access.the-variants.{ReadTail, ReadLink, ReadOldTail, CasLink, CasTail, CasHead, WriteOldTail}
-use Rattle.cells.specs.declared.Found.{Found}
+use Rattle.access.specs.declared.Access.{Access}
+use Rattle.access.specs.declared.Access.the-variants.{ReadTail, ReadLink, ReadOldTail, CasLink, CasTail, CasHead, WriteOldTail}
+use Rattle.found.specs.declared.Found.{Found}
 use Rattle.cells.specs.Ends.{pastTail, pastFront}
-use Rattle.cells.specs.Found.{tailIn, linkIn, oldTailIn}
+use Rattle.found.specs.Found.{tailIn, linkIn, oldTailIn}
 use Rattle.place.specs.declared.Place.the-variants as place
 use Rattle.place.specs.declared.Resume.{Resume}
 use Rattle.place.specs.declared.Resume.the-variants as resume

@@ -1,13 +1,13 @@
 // 01, "Steps", Running an announcement; listing 5. The announcement is `a`, its request `request`.
 ghost use mathlib.Core.Path.{_≡_};
 ghost use Rattle.running.specs.Running.{runAccess, runAfter, afterA2, afterA3, afterA6, sizeAt, walkTo, walkBy, back};
-use cells::Found;
+use access::Access;
 use cells::Head;
 use cells::Link;
 use cells::OldTail;
 use cells::Request;
 use cells::Tail;
-use memory::Access;
+use found::Found;
 use place::After;
 use place::BatchStep;
 use place::DequeueStep;

@@ -3,10 +3,10 @@ use Prim.Native.Nat.{ℕ}
 use mathlib.Core.Bool.{Bool, true, false}
 use Rattle.cells.specs.declared.Head.{Head}
 use Rattle.cells.specs.declared.Head.the-variants.{Plain, Announced}
-use Rattle.memory.specs.declared.Access.{Access}
-use Rattle.memory.specs.declared.Access.the-variants.{ReadHead, Announce}
-use Rattle.cells.specs.declared.Found.{Found}
-use Rattle.cells.specs.Found.{headIn, takenIn}
+use Rattle.access.specs.declared.Access.{Access}
+use Rattle.access.specs.declared.Access.the-variants.{ReadHead, Announce}
+use Rattle.found.specs.declared.Found.{Found}
+use Rattle.found.specs.Found.{headIn, takenIn}
 use Rattle.place.specs.declared.Place.the-variants as place
 use Rattle.place.specs.declared.Resume.the-variants as resume
 use Rattle.place.specs.declared.After.{After}

@@ -1,9 +1,9 @@
 -- The access of a thread's next step, and how it goes on; by the four kinds of call of 01, "Steps", and running an announcement.
 use Prim.Native.Nat.{ℕ}
 use Rattle.cells.specs.declared.Request.{Request}
-use Rattle.cells.specs.declared.Found.{Found}
-use Rattle.memory.specs.declared.Access.{Access}
-use Rattle.memory.specs.declared.Access.the-variants.{ReadHead}
+use Rattle.found.specs.declared.Found.{Found}
+use Rattle.access.specs.declared.Access.{Access}
+use Rattle.access.specs.declared.Access.the-variants.{ReadHead}
 use Rattle.place.specs.declared.Place.{Place}
 use Rattle.place.specs.declared.Place.the-variants.{Idle, Enqueue, Dequeue, Batch, Dequeues, Running}
 use Rattle.place.specs.declared.After.{After}

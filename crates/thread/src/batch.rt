@@ -1,10 +1,10 @@
 // 01, "Steps", Batch with an enqueue; listing 4. The announcement handed out to the call is `own`.
 ghost use mathlib.Core.Path.{_≡_};
 ghost use Rattle.thread.specs.Batch.{batchAccess, batchAfter, afterB1, afterB2};
-use cells::Found;
+use access::Access;
 use cells::Front;
 use cells::Head;
-use memory::Access;
+use found::Found;
 use place::After;
 use place::BatchStep;
 use place::Place;

@@ -1,11 +1,11 @@
 // 01, "Steps", Dequeue; listings 2 and 3.
 ghost use mathlib.Core.Path.{_≡_};
 ghost use Rattle.thread.specs.Dequeue.{dequeueAccess, dequeueAfter, afterD1, afterD2, afterD3};
-use cells::Found;
+use access::Access;
 use cells::Front;
 use cells::Head;
 use cells::Link;
-use memory::Access;
+use found::Found;
 use place::After;
 use place::DequeueStep;
 use place::Place;

@@ -1,11 +1,11 @@
 // 01, "Steps", Batch of dequeues only; listing 7.
 ghost use mathlib.Core.Path.{_≡_};
 ghost use Rattle.thread.specs.Dequeues.{dequeuesAccess, dequeuesAfter, stopped, oneFurther, goesTo, afterQ1, afterQ2, afterQ3};
-use cells::Found;
+use access::Access;
 use cells::Front;
 use cells::Head;
 use cells::Link;
-use memory::Access;
+use found::Found;
 use place::After;
 use place::DequeuesStep;
 use place::Place;

@@ -1,11 +1,11 @@
 // 01, "Steps", Enqueue; listing 1. The node handed out to the call is `node`.
 ghost use mathlib.Core.Path.{_≡_};
 ghost use Rattle.thread.specs.Enqueue.{enqueueAccess, enqueueAfter, afterE2, afterE4};
-use cells::Found;
+use access::Access;
 use cells::Head;
 use cells::Link;
 use cells::Tail;
-use memory::Access;
+use found::Found;
 use place::After;
 use place::EnqueueStep;
 use place::Place;

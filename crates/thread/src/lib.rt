@@ -10,9 +10,9 @@ pub mod enqueue;
 
 ghost use mathlib.Core.Path.{_≡_};
 ghost use Rattle.thread.specs.Calls.{access, after};
-use cells::Found;
+use access::Access;
 use cells::Request;
-use memory::Access;
+use found::Found;
 use place::After;
 use place::Place;
 

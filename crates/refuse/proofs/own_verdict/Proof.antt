@@ -13,12 +13,6 @@ returns c = simp (sym (c .before .foreign .ensures) ∙ c .if1 .taken)
 enum-told : tie.Need-enum-told
 enum-told c = search needs
 
-evaluate-needs-requires : tie.Need-evaluate-needs-requires
-evaluate-needs-requires c κs = search needs
-
-lacking-requires : tie.Need-lacking-requires
-lacking-requires c κs = search needs
-
 enum-told-2 : tie.Need-enum-told-2
 enum-told-2 c = search needs
 
@@ -29,7 +23,7 @@ enum-told-4 : tie.Need-enum-told-4
 enum-told-4 c = search needs
 
 returns-2 : tie.Need-returns-2
-returns-2 c = simp (c .lacking .ensures, c .before .evaluate-needs .ensures, c .before .before .enum-told .given .1, sym (c .before .before .before .before .before .foreign .ensures) ∙ c .before .before .before .before .if1 .left)
+returns-2 c = simp (c .enum-told .given .1, sym (c .before .before .before .foreign .ensures) ∙ c .before .before .if1 .left)
 
 returns-3 : tie.Need-returns-3
 returns-3 c = simp (c .enum-told2 .given .1, sym (c .before .before .before .foreign .ensures) ∙ c .before .before .if1 .left)
@@ -47,8 +41,6 @@ own-verdict-spec =
     foreign-requires
     returns
     enum-told
-    evaluate-needs-requires
-    lacking-requires
     enum-told-2
     enum-told-3
     enum-told-4

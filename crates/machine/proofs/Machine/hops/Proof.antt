@@ -55,8 +55,8 @@ mul-reached c = search needs
 element-copy-out-reached : tie.Need-element-copy-out-reached Inv-loop μ-loop
 element-copy-out-reached c = search needs
 
-on-requires : tie.Need-on-requires Inv-loop μ-loop
-on-requires c κs = search needs
+made-requires : tie.Need-made-requires Inv-loop μ-loop
+made-requires c κs = search needs
 
 mul-new-cell : tie.Need-mul-new-cell Inv-loop μ-loop
 mul-new-cell c = search needs
@@ -82,8 +82,8 @@ at-requires c κs = search needs
 mul-new-row : tie.Need-mul-new-row Inv-loop μ-loop
 mul-new-row c =
     let moved = c .before .before in
-    let made = moved .before .before .before .before .before in
-    let aimed = made .before .before .before .before .before in
+    let hit = moved .before .before .before .before .before in
+    let aimed = hit .before .before .before .before .before in
     let placed = aimed .before .before .before .before in
     let turn = placed .before .before .before in
     let head = turn .before in
@@ -93,8 +93,8 @@ mul-new-row c =
 element-set-from-new-row : tie.Need-element-set-from-new-row Inv-loop μ-loop
 element-set-from-new-row c =
     let moved = c .before .before in
-    let made = moved .before .before .before .before .before in
-    let aimed = made .before .before .before .before .before in
+    let hit = moved .before .before .before .before .before in
+    let aimed = hit .before .before .before .before .before in
     let placed = aimed .before .before .before .before in
     let turn = placed .before .before .before in
     let head = turn .before in
@@ -104,8 +104,8 @@ element-set-from-new-row c =
 sub-left : tie.Need-sub-left Inv-loop μ-loop
 sub-left c =
     let moved = c .before .before in
-    let made = moved .before .before .before .before .before in
-    let aimed = made .before .before .before .before .before in
+    let hit = moved .before .before .before .before .before in
+    let aimed = hit .before .before .before .before .before in
     let placed = aimed .before .before .before .before in
     let turn = placed .before .before .before in
     omega (arith, turn .loop-test)
@@ -116,8 +116,8 @@ goes-on-requires c κs = search needs
 loop-less : tie.Need-loop-less Inv-loop μ-loop
 loop-less c =
     let moved = c .before .before .before .before in
-    let made = moved .before .before .before .before .before in
-    let aimed = made .before .before .before .before .before in
+    let hit = moved .before .before .before .before .before in
+    let aimed = hit .before .before .before .before .before in
     let placed = aimed .before .before .before .before in
     let turn = placed .before .before .before in
     omega (arith, turn .loop-test)
@@ -125,14 +125,14 @@ loop-less c =
 loop-again : tie.Need-loop-again Inv-loop μ-loop
 loop-again c =
     let moved = c .before .before .before .before in
-    let made = moved .before .before .before .before .before in
-    let aimed = made .before .before .before .before .before in
+    let hit = moved .before .before .before .before .before in
+    let aimed = hit .before .before .before .before .before in
     let placed = aimed .before .before .before .before in
     let turn = placed .before .before .before in
     let head = turn .before in
     let start = head .before in
     let l = head .loop in
-    let hopped = hop-law (l .self) (start .args .at) (placed .announcement .ensures .0) (aimed .before .access .ensures) (aimed .node .ensures .0) (made .before .before .before .before .announcement3 .ensures .0) (made .on .ensures) (moved .after .ensures) (c .before .before .before .place .ensures) (c .before .before .at .ensures) in (
+    let hopped = hop-law (l .self) (start .args .at) (placed .announcement .ensures .0) (aimed .before .access .ensures) (aimed .node .ensures .0) (hit .before .before .before .before .announcement3 .ensures .0) (hit .made .ensures) (moved .after .ensures) (c .before .before .before .place .ensures) (c .before .before .at .ensures) in (
       omega (arith, l .inv .0, turn .loop-test),
       goes-on (l .left) (start .args .most) (l .self) (start .args .at) _ (l .inv .1) (omega (arith, turn .loop-test)) (omega (arith, l .inv .0)) hopped (sym (c .if1 .taken) ∙ c .before .goes-on .ensures),
     )
@@ -140,8 +140,8 @@ loop-again c =
 sub-ran-to : tie.Need-sub-ran-to Inv-loop μ-loop
 sub-ran-to c =
     let moved = c .before .before .before .before in
-    let made = moved .before .before .before .before .before in
-    let aimed = made .before .before .before .before .before in
+    let hit = moved .before .before .before .before .before in
+    let aimed = hit .before .before .before .before .before in
     let placed = aimed .before .before .before .before in
     let turn = placed .before .before .before in
     let head = turn .before in
@@ -154,14 +154,14 @@ returns : tie.Need-returns Inv-loop μ-loop
 returns c =
     let end = c .before in
     let moved = end .before .before .before .before in
-    let made = moved .before .before .before .before .before in
-    let aimed = made .before .before .before .before .before in
+    let hit = moved .before .before .before .before .before in
+    let aimed = hit .before .before .before .before .before in
     let placed = aimed .before .before .before .before in
     let turn = placed .before .before .before in
     let head = turn .before in
     let start = head .before in
     let l = head .loop in
-    let hopped = hop-law (l .self) (start .args .at) (placed .announcement .ensures .0) (aimed .before .access .ensures) (aimed .node .ensures .0) (made .before .before .before .before .announcement3 .ensures .0) (made .on .ensures) (moved .after .ensures) (end .before .before .before .place .ensures) (end .before .before .at .ensures) in
+    let hopped = hop-law (l .self) (start .args .at) (placed .announcement .ensures .0) (aimed .before .access .ensures) (aimed .node .ensures .0) (hit .before .before .before .before .announcement3 .ensures .0) (hit .made .ensures) (moved .after .ensures) (end .before .before .before .place .ensures) (end .before .before .at .ensures) in
     c .ran-to .ensures
     ∙ ends (l .left) (start .args .most) (l .self) (start .args .at) _ (l .inv .1) (omega (arith, turn .loop-test)) (omega (arith, l .inv .0)) hopped (sym (end .if1 .left) ∙ end .before .goes-on .ensures)
 
@@ -193,7 +193,7 @@ hops-spec =
     element-copy-out-cell
     mul-reached
     element-copy-out-reached
-    on-requires
+    made-requires
     mul-new-cell
     element-set-from-new-cell
     mul-new-announcement

@@ -1,8 +1,8 @@
 -- `machine::Machine::set_off` meets its contract, by whether an enqueue is pending.
-use borrow.Author.Tests.{eq-eqb, ne-eqb}
-use Rattle.machine.specs.Entries.{setOff}
 use mathlib.Core.Path.{sym}
+use borrow.Author.Tests.{eq-eqb, ne-eqb}
 use borrow.Author.Needs.{needs}
+use Rattle.machine.specs.Entries.{setOff}
 use Rattle.machine.proofs.Machine.set_off.Statement.{statement}
 use Rattle.machine.proofs.Machine.set_off.Tie as tie
 
@@ -19,24 +19,12 @@ returns : tie.Need-returns
 unfolding setOff
 returns c = simp (c .with-row .ensures, c .before .calling .ensures, sym (c .before .before .before .before .before .row-at .ensures), eq-eqb _ _ (c .before .before .if1 .taken))
 
-next-announcement-requires : tie.Need-next-announcement-requires
-next-announcement-requires c κs = search needs
-
-request-requires : tie.Need-request-requires
-request-requires c κs = search needs
-
-hand-out-announcement-requires : tie.Need-hand-out-announcement-requires
-hand-out-announcement-requires c κs = search needs
-
-calling-requires-2 : tie.Need-calling-requires-2
-calling-requires-2 c κs = search needs
-
-with-row-requires-2 : tie.Need-with-row-requires-2
-with-row-requires-2 c κs = search needs
+announce-requires : tie.Need-announce-requires
+announce-requires c κs = search needs
 
 returns-2 : tie.Need-returns-2
 unfolding setOff
-returns-2 c = simp (c .with-row2 .ensures, c .before .calling2 .ensures, c .before .before .hand-out-announcement .ensures, c .before .before .before .request .ensures, c .before .before .before .before .next-announcement .ensures, sym (c .before .before .before .before .before .before .before .before .before .row-at .ensures), ne-eqb _ _ (c .before .before .before .before .before .before .if1 .left))
+returns-2 c = simp (c .announce .ensures, sym (c .before .before .before .before .row-at .ensures), ne-eqb _ _ (c .before .if1 .left))
 
 pub set-off-spec : {M : Type 1} → statement M
 set-off-spec =
@@ -46,9 +34,5 @@ set-off-spec =
     calling-requires
     with-row-requires
     returns
-    next-announcement-requires
-    request-requires
-    hand-out-announcement-requires
-    calling-requires-2
-    with-row-requires-2
+    announce-requires
     returns-2)
