@@ -1,5 +1,5 @@
 // The listing program: reads a schedule from standard input and writes its listing to standard output, in
-// blocks. What is written is made by the crate listing; this is the reading and writing alone.
+// blocks. What is written is made by the crates listing and line; this is the reading and writing alone.
 use answer::Verdict;
 use lent::Writing;
 use listing::Listing;
@@ -26,9 +26,13 @@ fn list(s: &[u8]) {
 }
 
 fn first(opened: Opened) {
-    let mut out = io::buffer();
-    let writing = opened.first_line(&mut out);
-    write(&out, writing);
+    let verdict = opened.verdict;
+    let listing = opened.listing;
+    let machine = listing.machine;
+    let line = line::first(verdict, machine);
+    let bytes = line.bytes;
+    let count = line.count;
+    write(&bytes, Writing::Wrote { count });
 }
 
 // Block by block. A block tells an entry at least, and an entry takes a byte at least.
@@ -56,7 +60,8 @@ fn block(listing: Listing, s: &[u8]) -> Listing {
 
 fn last(listing: Listing) {
     let mut out = io::large_buffer();
-    let writing = listing.last_line(&mut out);
+    let machine = listing.machine;
+    let writing = line::queue(machine, &mut out);
     write(&out, writing);
 }
 

@@ -1,20 +1,12 @@
 -- 01, "What the contracts have to say": for all inputs the contract of each public function of the crate determines its outcome.
 use mathlib.Core.Path.{refl}
 use Rattle.contracts.specs.Determined.{Determines}
-use Rattle.contracts.proofs.Told.{nothing-required, together, answer, answer-and-second, answer-and-third}
+use Rattle.contracts.proofs.Told.{nothing-required, together, answer, answer-and-third}
 use Rattle.listing.proofs.Opened.of as opened-of
-use Rattle.listing.proofs.Opened.first_line as opened-first-line
 use Rattle.listing.proofs.Listing.lines
-use Rattle.listing.proofs.Listing.last_line as last-line
 
 pub opened-of-determined : {M : Type 1} → Determines M opened-of.ended opened-of.clauses
 opened-of-determined = record { for-all-inputs = nothing-required; one-outcome = λ i x y. together i (answer refl) }
 
-pub opened-first-line-determined : {M : Type 1} → Determines M opened-first-line.ended opened-first-line.clauses
-opened-first-line-determined = record { for-all-inputs = nothing-required; one-outcome = λ i x y. together i (answer-and-second refl) }
-
 pub lines-determined : {M : Type 1} → Determines M lines.ended lines.clauses
 lines-determined = record { for-all-inputs = nothing-required; one-outcome = λ i x y. together i (answer-and-third refl) }
-
-pub last-line-determined : {M : Type 1} → Determines M last-line.ended last-line.clauses
-last-line-determined = record { for-all-inputs = nothing-required; one-outcome = λ i x y. together i (answer-and-second refl) }

@@ -1,6 +1,3 @@
-pub mod Decimals
-pub mod Lengths
-pub mod Items
 pub mod Telling
 pub mod Blocks
 pub mod Whole

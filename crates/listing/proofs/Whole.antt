@@ -18,8 +18,8 @@ use Rattle.schedule.specs.Schedule.{Entries, goOn, entriesUpTo, entriesFrom}
 use Rattle.schedule.proofs.Within.{entry-within}
 use Rattle.schedule.proofs.Endings.{bound-not-met}
 use Rattle.machine.specs.State.{freshMachine}
+use Rattle.line.specs.Text.{setUpText}
 use Rattle.listing.specs.declared.Listing.{Listing}
-use Rattle.listing.specs.Text.{setUpText}
 use Rattle.listing.specs.Listing.{entryLines, afterSetUp, counted, listing}
 use Rattle.listing.specs.Pieces.{Piece, opened, openedBy, beginning, firstLine, lastLine, stopped, byReading, entered, nextLine, before, lines}
 use Rattle.listing.proofs.Blocks.{no-more-lines}

@@ -13,7 +13,7 @@ use Rattle.machine.specs.declared.Told.{Told}
 use Rattle.machine.specs.State.{freshMachine}
 use Rattle.machine.specs.Entries.{apply}
 use Rattle.contents.specs.Contents.{contents, depth}
-use Rattle.listing.specs.Text.{entryText, setUpText, refusedText, queueText}
+use Rattle.line.specs.Text.{entryText, setUpText, refusedText, queueText}
 
 -- the line of the entry at a place, which gave this
 abbrev pub entryLine : ℕ → Told → List ℕ

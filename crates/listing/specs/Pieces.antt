@@ -19,10 +19,12 @@ use Rattle.machine.specs.declared.Told.{Told}
 use Rattle.machine.specs.State.{freshMachine}
 use Rattle.machine.specs.Entries.{apply}
 use Rattle.contents.specs.Contents.{contents, depth}
+use Rattle.line.specs.Text.{firstText, entryText, queueText}
+use Rattle.line.specs.Line.{lineOf}
 use Rattle.listing.specs.declared.Listing.{Listing}
 use Rattle.listing.specs.declared.Opened.{Opened}
 use Rattle.listing.specs.declared.Lines.{Lines}
-use Rattle.listing.specs.Text.{entryText, setUpText, refusedText, queueText}
+use Rattle.listing.specs.declared.Next.{Next}
 use Rattle.listing.specs.Listing.{entryLine, counted}
 
 -- some text, and the listing after it
@@ -33,20 +35,23 @@ pub record Piece : Type 0 where
 abbrev pub told : Piece → Lines
 told p = record { listing = p .after; count = length (p .text) }
 
+-- where the text is one line
+abbrev pub next : Piece → Next
+next p = record { line = lineOf (p .text); listing = p .after }
+
 -- the set-up
 abbrev pub beginning : Machine → ℕ → Listing
 beginning m from = record { machine = m; from = from; place = 0; going = true }
 
+abbrev pub openedAt : Verdict → ℕ → ℕ → ℕ → Opened
+openedAt verdict threads nodes from = record { verdict = verdict; listing = beginning (freshMachine threads nodes) from }
+
 abbrev pub openedBy : SetUpReading → Opened
-openedBy (setup.Refused r) = record { verdict = Refused r; listing = beginning (freshMachine 0 0) 0 }
-openedBy (setup.SetUp threads nodes next) = record { verdict = Accepted; listing = beginning (freshMachine threads nodes) next }
+openedBy (setup.Refused r) = openedAt (Refused r) 0 0 0
+openedBy (setup.SetUp threads nodes from) = openedAt Accepted threads nodes from
 
 abbrev pub opened : List ℕ → Opened
 opened s = openedBy (setUpOf (counted s))
-
-abbrev pub firstText : Verdict → Machine → List ℕ
-firstText Accepted m = setUpText (m .threads) (m .nodes)
-firstText (Refused r) m = refusedText r
 
 abbrev pub firstLine : Opened → List ℕ
 firstLine o = firstText (o .verdict) (o .listing .machine)
@@ -55,20 +60,23 @@ firstLine o = firstText (o .verdict) (o .listing .machine)
 abbrev pub stopped : Listing → Listing
 stopped l = record { machine = l .machine; from = l .from; place = l .place; going = false }
 
+abbrev pub ended : Listing → Piece
+ended l = record { text = []; after = stopped l }
+
 abbrev pub refusedAt : Listing → Refusal → Piece
 refusedAt l r = record { text = entryText (l .place) (answer.Refused r) 0 (depth (l .machine)); after = stopped l }
 
-abbrev pub afterEntry : Listing → ℕ → Told → Piece
-afterEntry l n t = record {
-  text = entryLine (l .place) t;
-  after = record { machine = t .machine; from = l .from + n; place = (l .place + 1) % 2 ^ 32; going = true };
+abbrev pub afterEntry : ℕ → ℕ → Told → Piece
+afterEntry place from t = record {
+  text = entryLine place t;
+  after = record { machine = t .machine; from = from; place = (place + 1) % 2 ^ 32; going = true };
 }
 
 abbrev pub entered : Listing → Entry → ℕ → Piece
-entered l e n = afterEntry l n (apply (l .machine) e)
+entered l e n = afterEntry (l .place) (l .from + n) (apply (l .machine) e)
 
 abbrev pub byReading : EntryReading → Listing → Piece
-byReading entry.End l = record { text = []; after = stopped l }
+byReading entry.End l = ended l
 byReading (entry.Refused r) l = refusedAt l r
 byReading (entry.Entry e n) l = entered l e n
 

@@ -1,19 +1,18 @@
-// The listing of a schedule as text (01, "Schedule bytes and listing"): the set-up's line, a line for each
-// entry, the line of what the queue holds. It is told piece by piece, so that one buffer serves however
+// The listing of a schedule (01, "Schedule bytes and listing"): what it begins with, and a line for each
+// entry; the text of lines is the crate line's. It is told piece by piece, so that one buffer serves however
 // long it is; that the pieces are the whole listing is proved beside.
-mod put;
-
 ghost use mathlib.Core.Path.{_≡_};
 ghost use Prim.Native.Nat.{_+_, _/_, _^_, _≤_, _<_};
-ghost use lib.ListN.{length};
-ghost use Rattle.lent.specs.Lent.{writing, written, writtenAt};
+ghost use lib.ListN.{length, take};
+ghost use Rattle.lent.specs.Lent.{written, writtenAt};
 ghost use Rattle.listing.specs.Listing.{counted};
-ghost use Rattle.listing.specs.Pieces.{opened, firstLine, lastLine, beginning, stopped, refusedAt, entered, nextLine, lines, told};
+ghost use Rattle.listing.specs.Pieces.{opened, openedAt, stopped, ended, refusedAt, afterEntry, entered, nextLine, lines, next, told};
 use answer::Answer;
 use answer::Verdict;
 use entry::Entry;
-use lent::Writing;
+use line::Line;
 use machine::Machine;
+use machine::Told;
 use refusal::Refusal;
 use schedule::read::EntryReading;
 use schedule::read::SetUpReading;
@@ -39,6 +38,12 @@ pub struct Lines {
     pub count: usize,
 }
 
+// The next entry's line, and the listing after it.
+struct Next {
+    line: Line,
+    listing: Listing,
+}
+
 // Of longer input only the first 65,536 bytes count.
 fn counted(s: &[u8]) -> &[u8]
     ensures { λ r. ⌜ now r ≡ counted (now (s .entry)) ⌝ }
@@ -56,46 +61,26 @@ impl Opened {
     {
         let reading = schedule::read::set_up(counted(s));
         match reading {
-            SetUpReading::Refused { refusal } => {
-                let listing = Listing::at(Machine::fresh(0, 0), 0);
-                Opened {
-                    verdict: Verdict::Refused(refusal),
-                    listing,
-                }
-            }
+            SetUpReading::Refused { refusal } => Opened::at(Verdict::Refused(refusal), 0, 0, 0),
             SetUpReading::SetUp {
                 threads,
                 nodes,
                 next,
-            } => {
-                let listing = Listing::at(Machine::fresh(threads, nodes), next);
-                Opened {
-                    verdict: Verdict::Accepted,
-                    listing,
-                }
-            }
+            } => Opened::at(Verdict::Accepted, threads, nodes, next),
         }
     }
 
-    // Writes the set-up's line, or the one that says why it is refused. Refused, and out left as it is:
-    // NoRoom.
-    pub fn first_line(self, out: &mut [u8]) -> Writing
-        ensures { λ r. ⌜ (r ≡ writing (firstLine self) (now (out .entry))) × (now (out .exit) ≡ written (firstLine self) (now (out .entry))) ⌝ }
+    // A fresh machine, and the entries from a place on.
+    fn at(verdict: Verdict, threads: u32, nodes: u32, from: usize) -> Opened
+        ensures { λ r. ⌜ r ≡ openedAt verdict threads nodes from ⌝ }
     {
-        let mut line = [0u8; Listing::LINE];
-        let verdict = self.verdict;
-        match verdict {
-            Verdict::Refused(refusal) => {
-                let end = put::refused_line(&mut line, refusal);
-                lent::put(out, &line[..end])
-            }
-            Verdict::Accepted => {
-                let listing = self.listing;
-                let machine = listing.machine;
-                let end = put::set_up_line(&mut line, machine.threads, machine.nodes);
-                lent::put(out, &line[..end])
-            }
-        }
+        let listing = Listing {
+            machine: Machine::fresh(threads, nodes),
+            from,
+            place: 0,
+            going: true,
+        };
+        Opened { verdict, listing }
     }
 }
 
@@ -103,30 +88,15 @@ impl Listing {
     // How many bytes of a schedule count.
     pub const BYTES: usize = 65536;
 
-    // Room for the longest line of an entry, and for the longest of what the queue holds.
-    pub const LINE: usize = 64;
-
-    pub const QUEUE: usize = 5640;
-
-    fn at(machine: Machine, from: usize) -> Listing
-        ensures { λ r. ⌜ r ≡ beginning machine from ⌝ }
-    {
-        Listing {
-            machine,
-            from,
-            place: 0,
-            going: true,
-        }
-    }
-
-    // Writes the lines of the next entries at the start of out, as many as find room at LINE bytes each.
+    // Writes the lines of the next entries at the start of out, as many as find room at Line::BYTES
+    // each.
     pub fn lines(self, s: &[u8], out: &mut [u8]) -> Lines
         ensures { λ r. ⌜ (r ≡ told (lines (length (now (out .entry)) / 64) (counted (now (s .entry))) self)) × (now (out .exit) ≡ written (lines (length (now (out .entry)) / 64) (counted (now (s .entry))) self .text) (now (out .entry))) ⌝ }
     {
         let input = counted(s);
         let mut listing = self;
         let mut at = 0;
-        let mut left = out.len() / Listing::LINE;
+        let mut left = out.len() / Line::BYTES;
         while 0 < left {
             if listing.going {
                 let next = listing.next_line(input, out, at);
@@ -145,14 +115,25 @@ impl Listing {
         requires { ⌜ at + 64 ≤ length (now out) ⌝ }
         ensures { λ r. ⌜ (r ≡ told (nextLine (now (s .entry)) self)) × (now (out .exit) ≡ writtenAt at (nextLine (now (s .entry)) self .text) (now (out .entry))) ⌝ }
     {
+        let next = self.next(s);
+        let line = next.line;
+        put(out, at, line);
+        let listing = next.listing;
+        Lines {
+            listing,
+            count: line.count,
+        }
+    }
+
+    // By what is read there: the end, a refusal, or an entry.
+    fn next(self, s: &[u8]) -> Next
+        ensures { λ r. ⌜ r ≡ next (nextLine (now (s .entry)) self) ⌝ }
+    {
         let reading = schedule::read::entry(s, self.from);
         match reading {
-            EntryReading::End => {
-                let listing = self.stopped();
-                Lines { listing, count: 0 }
-            }
-            EntryReading::Refused { refusal } => self.refused(out, at, refusal),
-            EntryReading::Entry { entry, count } => self.entered(out, at, entry, count),
+            EntryReading::End => self.ended(),
+            EntryReading::Refused { refusal } => self.refused(refusal),
+            EntryReading::Entry { entry, count } => self.entered(entry, count),
         }
     }
 
@@ -168,70 +149,61 @@ impl Listing {
         }
     }
 
+    // No entry is left, and no line is told.
+    fn ended(self) -> Next
+        ensures { λ r. ⌜ r ≡ next (ended self) ⌝ }
+    {
+        let line = Line {
+            bytes: [0u8; Line::BYTES],
+            count: 0,
+        };
+        let listing = self.stopped();
+        Next { line, listing }
+    }
+
     // Bytes that are no entry get a line too, and end the entries.
-    fn refused(self, out: &mut [u8], at: usize, refusal: Refusal) -> Lines
-        requires { ⌜ at + 64 ≤ length (now out) ⌝ }
-        ensures { λ r. ⌜ (r ≡ told (refusedAt self refusal)) × (now (out .exit) ≡ writtenAt at (refusedAt self refusal .text) (now (out .entry))) ⌝ }
+    fn refused(self, refusal: Refusal) -> Next
+        ensures { λ r. ⌜ r ≡ next (refusedAt self refusal) ⌝ }
     {
         let machine = self.machine;
-        let end = put::entry_line(
-            out,
-            at,
-            self.place,
-            Answer::Refused(refusal),
-            0,
-            contents::depth(machine),
-        );
+        let depth = contents::depth(machine);
+        let line = line::entry(self.place, Answer::Refused(refusal), 0, depth);
         let listing = self.stopped();
-        Lines {
-            listing,
-            count: end - at,
-        }
+        Next { line, listing }
     }
 
     // An entry that read well, and took `count` bytes.
-    fn entered(self, out: &mut [u8], at: usize, entry: Entry, count: usize) -> Lines
-        requires { ⌜ (at + 64 ≤ length (now out)) × (self .from + count < 2 ^ 64) ⌝ }
-        ensures { λ r. ⌜ (r ≡ told (entered self entry count)) × (now (out .exit) ≡ writtenAt at (entered self entry count .text) (now (out .entry))) ⌝ }
-    {
-        let before = self.machine;
-        let after = before.apply(entry);
-        let machine = after.machine;
-        let answer = after.answer;
-        let end = put::entry_line(
-            out,
-            at,
-            self.place,
-            answer,
-            after.steps,
-            contents::depth(machine),
-        );
-        let listing = Listing {
-            machine,
-            from: self.from + count,
-            place: std::num::wrapping_add_u32(self.place, 1),
-            going: true,
-        };
-        Lines {
-            listing,
-            count: end - at,
-        }
-    }
-
-    // Writes the line of what the queue holds. Refused, and out left as it is: NoRoom.
-    pub fn last_line(self, out: &mut [u8]) -> Writing
-        ensures { λ r. ⌜ (r ≡ writing (lastLine self) (now (out .entry))) × (now (out .exit) ≡ written (lastLine self) (now (out .entry))) ⌝ }
+    fn entered(self, entry: Entry, count: usize) -> Next
+        requires { ⌜ self .from + count < 2 ^ 64 ⌝ }
+        ensures { λ r. ⌜ r ≡ next (entered self entry count) ⌝ }
     {
         let machine = self.machine;
-        let mut items = [0u32; 512];
-        let mut line = [0u8; Listing::QUEUE];
-        let writing = contents::write(machine, &mut items);
-        match writing {
-            Writing::Wrote { count } => {
-                let end = put::queue_line(&mut line, &items, count);
-                lent::put(out, &line[..end])
-            }
-            Writing::Refused { refusal } => Writing::Refused { refusal },
-        }
+        after(machine.apply(entry), self.from + count, self.place)
     }
+}
+
+// The line of the entry at a place, which gave this, and the listing from behind the entry.
+fn after(told: Told, from: usize, place: u32) -> Next
+    ensures { λ r. ⌜ r ≡ next (afterEntry place from told) ⌝ }
+{
+    let machine = told.machine;
+    let answer = told.answer;
+    let depth = contents::depth(machine);
+    let line = line::entry(place, answer, told.steps, depth);
+    let listing = Listing {
+        machine,
+        from,
+        place: std::num::wrapping_add_u32(place, 1),
+        going: true,
+    };
+    Next { line, listing }
+}
+
+// Puts a line at a place of out, where it fits.
+fn put(out: &mut [u8], at: usize, line: Line)
+    requires { ⌜ (line .count ≤ length (line .bytes)) × (at + line .count ≤ length (now out)) ⌝ }
+    ensures { λ _. ⌜ now (out .exit) ≡ writtenAt at (take (line .count) (line .bytes)) (now (out .entry)) ⌝ }
+{
+    let bytes = line.bytes;
+    lent::put(&mut out[at..], &bytes[..line.count]);
 }

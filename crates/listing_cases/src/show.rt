@@ -35,9 +35,12 @@ pub(crate) fn listing(s: &[u8], shown: u32) -> Sums {
 }
 
 fn first(opened: Opened) -> Sums {
-    let mut out = io::buffer();
-    let writing = opened.first_line(&mut out);
-    Sums::none().tell(&out, writing, true)
+    let verdict = opened.verdict;
+    let listing = opened.listing;
+    let machine = listing.machine;
+    let line = line::first(verdict, machine);
+    let bytes = line.bytes;
+    Sums::none().tell_first(&bytes, line.count, true)
 }
 
 // A block tells an entry at least, and an entry takes a byte at least.
@@ -58,7 +61,8 @@ fn entries(opened: Told, s: &[u8], shown: u32) -> Told {
 fn last(told: Told) -> Sums {
     let mut out = io::large_buffer();
     let listing = told.listing;
-    let writing = listing.last_line(&mut out);
+    let machine = listing.machine;
+    let writing = line::queue(machine, &mut out);
     let sums = told.sums;
     sums.tell(&out, writing, true)
 }

@@ -1,66 +1,24 @@
--- `listing::Listing::next_line` meets its contract, by what was read.
-use mathlib.Core.Path.{sym, _∙_}
+-- `listing::Listing::next_line` meets its contract: the next line is put where there is room for one.
 use native.Mathlib.Omega.{arith}
-use Rattle.schedule.proofs.Within.{entry-within}
-use Rattle.listing.proofs.Telling.{by-reading, end-told}
+use Rattle.listing.proofs.Telling.{next-line-few, next-counts, next-holds, next-told}
 use borrow.Author.Needs.{needs}
 use Rattle.listing.proofs.Listing.next_line.Statement.{statement}
 use Rattle.listing.proofs.Listing.next_line.Tie as tie
 
-entry-requires : tie.Need-entry-requires
-entry-requires c κs = search needs
+next-requires : tie.Need-next-requires
+next-requires c κs = search needs
 
-enum-told : tie.Need-enum-told
-enum-told c = search needs
-
-stopped-requires : tie.Need-stopped-requires
-stopped-requires c κs = search needs
-
-enum-known-reading : tie.Need-enum-known-reading
-enum-known-reading c = search needs
-
-refused-requires : tie.Need-refused-requires
-refused-requires c κs = search needs
-
-enum-known-reading-2 : tie.Need-enum-known-reading-2
-enum-known-reading-2 c = search needs
-
-entered-requires : tie.Need-entered-requires
-entered-requires c κs =
-    let a = c .before .before .before .before .before .before .before .args in
-    let within = entry-within (a .s .now) (a .self .from) _ _ (sym (c .before .before .before .before .entry .ensures) ∙ c .before .before .reading2 .given .1) in
-    (search needs, omega (arith, within .1))
-
-returns : tie.Need-returns
-returns c =
-    let a = c .before .before .before .before .before .before .args in
-    by-reading (a .self) (a .at) (a .out .now) (a .s .now) (c .before .before .before .entry .ensures) (c .before .enum-told .given .1) (end-told (a .self) (a .at) (a .out .now) (c .stopped .ensures))
+put-requires : tie.Need-put-requires
+put-requires c κs =
+    let a = c .before .before .before .before .before .args in
+    let e = c .before .before .next .ensures in
+    (next-holds (a .s .now) (a .self) e .1, omega (arith, c .before .before .before .before .before .pre, next-counts (a .s .now) (a .self) e, next-line-few (a .s .now) (a .self)))
 
 same-length : tie.Need-same-length
 same-length c = search needs
 
-returns-2 : tie.Need-returns-2
-returns-2 c = let a = c .before .before .before .before .before .before .before .before .before .before .args in by-reading (a .self) (a .at) (a .out .now) (a .s .now) (c .before .before .before .before .before .before .before .entry .ensures) (c .before .before .before .before .before .reading .given .1) (c .before .before .refused .ensures)
-
-same-length-2 : tie.Need-same-length-2
-same-length-2 c = search needs
-
-returns-3 : tie.Need-returns-3
-returns-3 c = let a = c .before .before .before .before .before .before .before .before .before .before .args in by-reading (a .self) (a .at) (a .out .now) (a .s .now) (c .before .before .before .before .before .before .before .entry .ensures) (c .before .before .before .before .before .reading2 .given .1) (c .before .before .entered .ensures)
+returns : tie.Need-returns
+returns c = let a = c .before .before .before .before .before .before .before .before .before .args in next-told (a .s .now) (a .self) (c .before .before .before .before .before .before .next .ensures) (a .at) (a .out .now) (c .before .before .before .put .ensures)
 
 pub next-line-spec : {M : Type 1} → statement M
-next-line-spec =
-    tie.close
-    (tie.spec
-    entry-requires
-    enum-told
-    stopped-requires
-    enum-known-reading
-    refused-requires
-    enum-known-reading-2
-    entered-requires
-    returns
-    same-length
-    returns-2
-    same-length-2
-    returns-3)
+next-line-spec = tie.close (tie.spec next-requires put-requires same-length returns)

@@ -1,0 +1,5 @@
+pub mod Decimals
+pub mod Lengths
+pub mod Lines
+pub mod Items
+pub mod Determined
