@@ -1,9 +1,11 @@
 -- 01, "Contents and order of effect": the abstract head, the items of the chain after it, and the depth.
-use Prim.Native.Nat.{ℕ, zero, suc, _-_}
+use Prim.Native.Nat.{ℕ, zero, suc, _-_, _%_}
 use mathlib.Core.Bool.{Bool, false, cond}
 use mathlib.Core.List.{List, [], _∷_, map}
 use lib.Dec.{eqb}
+use lib.ListN.{getD}
 use Rattle.cells.specs.declared.Tail.{Tail}
+use Rattle.cells.specs.declared.Front.{Front}
 use Rattle.cells.specs.declared.Head.{Head}
 use Rattle.cells.specs.declared.Head.the-variants.{Plain, Announced}
 use Rattle.cells.specs.declared.Cell.{Cell}
@@ -17,8 +19,9 @@ use Rattle.memory.specs.Memory.{cellAt, announcementAt}
 use Rattle.place.specs.declared.RunStep.{RunStep}
 use Rattle.place.specs.declared.RunStep.the-variants.{A1, A2, A3, A4, A5, A6, A7, A8}
 use Rattle.running.specs.Running.{walkTo}
+use Rattle.answer.specs.declared.Item.{Item}
 use Rattle.machine.specs.declared.Machine.{Machine}
-use Rattle.machine.specs.State.{itemAt}
+use Rattle.machine.specs.State.{noItem}
 use Rattle.pairing.specs.Pairing.{nodeBehind}
 
 -- the node that n links lead to from a node; a walk that meets no link stays, which none of a reachable machine does
@@ -46,19 +49,16 @@ leadsTo (To y) x = eqb y x
 
 -- with an announcement in the head: the old head until the first node is linked, from then on the head that a7 will set.
 -- While the old tail is not written the tail stays where the batch is linked, so its link tells.
-abbrev pub oldTailHead : Machine → Request → OldTail → ℕ
-oldTailHead m k (Set o) = headToBe (m .links) k o
-oldTailHead m k Unset =
-    cond (leadsTo (cellAt (m .links) (m .ends .tail .node) .link) (k .first))
-    (headToBe (m .links) k (m .ends .tail))
-    (k .«old_head» .node)
+abbrev pub oldTailHead : List Cell → Tail → Request → OldTail → ℕ
+oldTailHead links t k (Set o) = headToBe links k o
+oldTailHead links t k Unset = cond (leadsTo (cellAt links (t .node) .link) (k .first)) (headToBe links k t) (k .«old_head» .node)
 
-abbrev pub announcedHead : Machine → Announcement → ℕ
-announcedHead m a = oldTailHead m (a .request) (a .«old_tail»)
+abbrev pub announcedHead : List Cell → Tail → Announcement → ℕ
+announcedHead links t a = oldTailHead links t (a .request) (a .«old_tail»)
 
 abbrev pub headNode : Machine → Head → ℕ
 headNode m (Plain f) = f .node
-headNode m (Announced a) = announcedHead m (announcementAt (m .announcements) a)
+headNode m (Announced a) = announcedHead (m .links) (m .ends .tail) (announcementAt (m .announcements) a)
 
 unfoldable pub abstractHead : Machine → ℕ
 abstractHead m = headNode m (m .ends .head)
@@ -72,17 +72,17 @@ unfoldable pub chainAfter : ℕ → List Cell → ℕ → List ℕ
 chainAfter zero links x = []
 chainAfter (suc n) links x = ifLinked (cellAt links x .link) (chainAfter n links (nodeBehind (cellAt links x .link) x))
 
-abbrev pub itemsAfter : Machine → ℕ → List ℕ
-itemsAfter m x = map (λ n. itemAt m n .value) (chainAfter 512 (m .links) x)
+abbrev pub itemsAfter : List Cell → List Item → ℕ → List ℕ
+itemsAfter links items x = map (λ n. getD items (n % 512) noItem .value) (chainAfter 512 links x)
 
 -- contents are the items of the chain after the abstract head
 unfoldable pub contents : Machine → List ℕ
-contents m = itemsAfter m (abstractHead m)
+contents m = itemsAfter (m .links) (m .items) (abstractHead m)
 
 -- depth: tail count less head count (the old head's while an announcement is in the head), 0 where that is negative
-abbrev pub headCount : Machine → Head → ℕ
-headCount m (Plain f) = f .count .0
-headCount m (Announced a) = announcementAt (m .announcements) a .request .«old_head» .count .0
+abbrev pub frontOf : Head → List Announcement → Front
+frontOf (Plain f) announcements = f
+frontOf (Announced a) announcements = announcementAt announcements a .request .«old_head»
 
 unfoldable pub depth : Machine → ℕ
-depth m = m .ends .tail .count .0 - headCount m (m .ends .head)
+depth m = m .ends .tail .count .0 - frontOf (m .ends .head) (m .announcements) .count .0

@@ -161,7 +161,7 @@ module _ (m : Machine) (g : Ghost) (i : Inv (sharedOf m) g) where
 
     -- with announcement a in the head
     announced-head-at : (o : OldTail) → announcementAt (m .announcements) a .«old_tail» ≡ o
-        → At (g .chain) (positionIf (requestIn m a) g a (linked-or-not (g .by) a)) (oldTailHead m (requestIn m a) o)
+        → At (g .chain) (positionIf (requestIn m a) g a (linked-or-not (g .by) a)) (oldTailHead (m .links) (m .ends .tail) (requestIn m a) o)
     announced-head-at (Set o) e =
         let w = i .linked .oldTails a o e there in
         ap (at (g .chain)) (if-linked g (i .ends) (requestIn m a) a (o .count .0) (w .0) (linked-or-not (g .by) a)) ∙ head-to-be-at o (w .0) (w .1)

@@ -28,7 +28,7 @@ returns c = simp (c .before .head .given .1)
 
 returns-2 : tie.Need-returns-2
 unfolding abstractHead
-returns-2 c = simp (c .announced-head .ensures, c .before .before .before .head2 .given .1)
+returns-2 c = simp (c .announced-head .ensures, c .before .before .before .before .head2 .given .1)
 
 pub abstract-head-spec : {M : Type 1} → statement M
 abstract-head-spec =

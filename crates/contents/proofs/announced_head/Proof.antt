@@ -20,8 +20,8 @@ cast-cell c = search needs
 mul-cell : tie.Need-mul-cell
 mul-cell c = search needs
 
-element-copy-out-cell : tie.Need-element-copy-out-cell
-element-copy-out-cell c = search needs
+array-copy-out-cell : tie.Need-array-copy-out-cell
+array-copy-out-cell c = search needs
 
 leads-to-requires : tie.Need-leads-to-requires
 leads-to-requires c κs = search needs
@@ -31,18 +31,18 @@ head-to-be-requires-2 c κs = search needs
 
 returns : tie.Need-returns
 returns c =
-    let a = c .before .before .before .before .before .before .before .before .before .before .before .args in
-    old-tail-unset (a .t1) (a .announcement) (c .before .before .before .before .before .before .before .enum-told .given .1) (c .before .before .leads-to .ensures) (c .before .if1 .taken) (c .head-to-be2 .ensures)
+    let a = c .before .before .before .before .before .before .before .before .before .args in
+    old-tail-unset (a .t1) (a .tail) (a .announcement) (c .before .before .before .before .before .enum-told .given .1) (c .before .before .leads-to .ensures) (c .before .if1 .taken) (c .head-to-be2 .ensures)
 
 returns-2 : tie.Need-returns-2
 returns-2 c =
     let a = c .before .before .before .before .before .before .args in
-    old-tail-set (a .t1) (a .announcement) (c .before .before .old .given .1) (c .head-to-be .ensures)
+    old-tail-set (a .t1) (a .tail) (a .announcement) (c .before .before .old .given .1) (c .head-to-be .ensures)
 
 returns-3 : tie.Need-returns-3
 returns-3 c =
-    let a = c .before .before .before .before .before .before .before .before .before .before .args in
-    old-tail-unset (a .t1) (a .announcement) (c .before .before .before .before .before .before .enum-told .given .1) (c .before .leads-to .ensures) (c .if1 .left) refl
+    let a = c .before .before .before .before .before .before .before .before .args in
+    old-tail-unset (a .t1) (a .tail) (a .announcement) (c .before .before .before .before .enum-told .given .1) (c .before .leads-to .ensures) (c .if1 .left) refl
 
 pub announced-head-spec : {M : Type 1} → statement M
 announced-head-spec =
@@ -53,7 +53,7 @@ announced-head-spec =
     enum-told
     cast-cell
     mul-cell
-    element-copy-out-cell
+    array-copy-out-cell
     leads-to-requires
     head-to-be-requires-2
     returns

@@ -38,42 +38,42 @@ enum-told-6 c = search needs
 returns : tie.Need-returns
 returns c =
     let a = c .before .before .before .before .before .args in
-    reached-by (a .machine .links) (a .request) (a .old) (c .before .before .before .before .walk-to .ensures) (c .before .before .step .given .1) (c .walked .ensures)
+    reached-by (a .links) (a .request) (a .old) (c .before .before .before .before .walk-to .ensures) (c .before .before .step .given .1) (c .walked .ensures)
 
 returns-2 : tie.Need-returns-2
 returns-2 c =
     let a = c .before .before .before .before .args in
-    reached-by (a .machine .links) (a .request) (a .old) (c .before .before .before .walk-to .ensures) (c .before .step2 .given .1) refl
+    reached-by (a .links) (a .request) (a .old) (c .before .before .before .walk-to .ensures) (c .before .step2 .given .1) refl
 
 returns-3 : tie.Need-returns-3
 returns-3 c =
     let a = c .before .before .before .args in
-    reached-by (a .machine .links) (a .request) (a .old) (c .before .before .walk-to .ensures) (c .enum-told .given .1) refl
+    reached-by (a .links) (a .request) (a .old) (c .before .before .walk-to .ensures) (c .enum-told .given .1) refl
 
 returns-4 : tie.Need-returns-4
 returns-4 c =
     let a = c .before .before .before .args in
-    reached-by (a .machine .links) (a .request) (a .old) (c .before .before .walk-to .ensures) (c .enum-told2 .given .1) refl
+    reached-by (a .links) (a .request) (a .old) (c .before .before .walk-to .ensures) (c .enum-told2 .given .1) refl
 
 returns-5 : tie.Need-returns-5
 returns-5 c =
     let a = c .before .before .before .args in
-    reached-by (a .machine .links) (a .request) (a .old) (c .before .before .walk-to .ensures) (c .enum-told3 .given .1) refl
+    reached-by (a .links) (a .request) (a .old) (c .before .before .walk-to .ensures) (c .enum-told3 .given .1) refl
 
 returns-6 : tie.Need-returns-6
 returns-6 c =
     let a = c .before .before .before .args in
-    reached-by (a .machine .links) (a .request) (a .old) (c .before .before .walk-to .ensures) (c .enum-told4 .given .1) refl
+    reached-by (a .links) (a .request) (a .old) (c .before .before .walk-to .ensures) (c .enum-told4 .given .1) refl
 
 returns-7 : tie.Need-returns-7
 returns-7 c =
     let a = c .before .before .before .args in
-    reached-by (a .machine .links) (a .request) (a .old) (c .before .before .walk-to .ensures) (c .enum-told5 .given .1) refl
+    reached-by (a .links) (a .request) (a .old) (c .before .before .walk-to .ensures) (c .enum-told5 .given .1) refl
 
 returns-8 : tie.Need-returns-8
 returns-8 c =
     let a = c .before .before .before .args in
-    reached-by (a .machine .links) (a .request) (a .old) (c .before .before .walk-to .ensures) (c .enum-told6 .given .1) refl
+    reached-by (a .links) (a .request) (a .old) (c .before .before .walk-to .ensures) (c .enum-told6 .given .1) refl
 
 pub head-to-be-spec : {M : Type 1} → statement M
 head-to-be-spec =

@@ -10,10 +10,10 @@ use Rattle.contents.proofs.length_after.Statement.{statement}
 use Rattle.contents.proofs.length_after.Tie as tie
 
 abbrev Inv-loop : tie.InvT-loop
-Inv-loop node machine at₀ count₀ at count = (count ≤ 512) × (count + length (chainAfter (512 - count) (machine .links) at) ≡ length (chainAfter 512 (machine .links) node))
+Inv-loop node links at₀ count₀ at count = (count ≤ 512) × (count + length (chainAfter (512 - count) links at) ≡ length (chainAfter 512 links node))
 
 abbrev μ-loop : tie.MeasureT-loop
-μ-loop node machine at₀ count₀ at count = 512 - count
+μ-loop node links at₀ count₀ at count = 512 - count
 
 loop-holds : tie.Need-loop-holds Inv-loop μ-loop
 loop-holds c = (search needs, omega arith)
@@ -24,8 +24,8 @@ cast-cell c = search needs
 mul-cell : tie.Need-mul-cell Inv-loop μ-loop
 mul-cell c = search needs
 
-element-copy-out-cell : tie.Need-element-copy-out-cell Inv-loop μ-loop
-element-copy-out-cell c = search needs
+array-copy-out-cell : tie.Need-array-copy-out-cell Inv-loop μ-loop
+array-copy-out-cell c = search needs
 
 enum-told : tie.Need-enum-told Inv-loop μ-loop
 enum-told c = search needs
@@ -34,7 +34,7 @@ returns : tie.Need-returns Inv-loop μ-loop
 returns c =
     let l = c .before .before .before .before .loop in
     let a = c .before .before .before .before .before .args in
-    omega (arith, l .inv .1, ap length (chain-none (a .t1 .links) (512 - l .count) (l .at) (c .enum-told .given .1)))
+    omega (arith, l .inv .1, ap length (chain-none (a .t1) (512 - l .count) (l .at) (c .enum-told .given .1)))
 
 enum-known-link : tie.Need-enum-known-link Inv-loop μ-loop
 enum-known-link c = search needs
@@ -50,7 +50,7 @@ loop-again c =
     let l = c .before .before .before .before .before .loop in
     let a = c .before .before .before .before .before .before .args in
     let one : 512 - l .count ≡ suc (512 - (l .count + 1)) = omega arith in
-    let more = ap (λ (n : ℕ). chainAfter n (a .t1 .links) (l .at)) one ∙ chain-to (a .t1 .links) (512 - (l .count + 1)) (l .at) (c .before .link .given .0 .0) (c .before .link .given .1) in
+    let more = ap (λ (n : ℕ). chainAfter n (a .t1) (l .at)) one ∙ chain-to (a .t1) (512 - (l .count + 1)) (l .at) (c .before .link .given .0 .0) (c .before .link .given .1) in
     (omega arith, omega (arith, l .inv .1, ap length more))
 
 returns-2 : tie.Need-returns-2 Inv-loop μ-loop
@@ -59,7 +59,7 @@ returns-2 c =
     let l = c .before .loop in
     let a = c .before .before .args in
     let none : 512 - l .count ≡ 0 = omega arith in
-    omega (arith, l .inv .1, ap (λ (n : ℕ). length (chainAfter n (a .t1 .links) (l .at))) none)
+    omega (arith, l .inv .1, ap (λ (n : ℕ). length (chainAfter n (a .t1) (l .at))) none)
 
 pub length-after-spec : {M : Type 1} → statement M
 length-after-spec =
@@ -70,7 +70,7 @@ length-after-spec =
     loop-holds
     cast-cell
     mul-cell
-    element-copy-out-cell
+    array-copy-out-cell
     enum-told
     returns
     enum-known-link

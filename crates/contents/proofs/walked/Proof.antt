@@ -9,10 +9,10 @@ use Rattle.contents.proofs.walked.Statement.{statement}
 use Rattle.contents.proofs.walked.Tie as tie
 
 abbrev Inv-loop : tie.InvT-loop
-Inv-loop from links machine at₀ left₀ at left = walked (machine .links) at left ≡ walked (machine .links) from links
+Inv-loop from many links at₀ left₀ at left = walked links at left ≡ walked links from many
 
 abbrev μ-loop : tie.MeasureT-loop
-μ-loop from links machine at₀ left₀ at left = left
+μ-loop from many links at₀ left₀ at left = left
 
 loop-holds : tie.Need-loop-holds Inv-loop μ-loop
 loop-holds c = refl
@@ -23,8 +23,8 @@ cast-cell c = search needs
 mul-cell : tie.Need-mul-cell Inv-loop μ-loop
 mul-cell c = search needs
 
-element-copy-out-cell : tie.Need-element-copy-out-cell Inv-loop μ-loop
-element-copy-out-cell c = search needs
+array-copy-out-cell : tie.Need-array-copy-out-cell Inv-loop μ-loop
+array-copy-out-cell c = search needs
 
 node-behind-requires : tie.Need-node-behind-requires Inv-loop μ-loop
 node-behind-requires c κs = search needs
@@ -39,15 +39,15 @@ loop-again : tie.Need-loop-again Inv-loop μ-loop
 loop-again c =
     let l = c .before .before .before .loop in
     let a = c .before .before .before .before .args in
-    ap (λ (x : ℕ). walked (a .t1 .links) x (l .left - 1)) (c .node-behind .ensures)
-    ∙ (sym (walk-first (a .t1 .links) (l .at) (l .left) (omega arith)) ∙ l .inv)
+    ap (λ (x : ℕ). walked (a .t1) x (l .left - 1)) (c .node-behind .ensures)
+    ∙ (sym (walk-first (a .t1) (l .at) (l .left) (omega arith)) ∙ l .inv)
 
 returns : tie.Need-returns Inv-loop μ-loop
 unfolding walked
 returns c =
     let l = c .before .loop in
     let none : 0 ≡ l .left = omega arith in
-    ap (walked (c .before .before .args .t1 .links) (l .at)) none ∙ l .inv
+    ap (walked (c .before .before .args .t1) (l .at)) none ∙ l .inv
 
 pub walked-spec : {M : Type 1} → statement M
 walked-spec =
@@ -58,7 +58,7 @@ walked-spec =
     loop-holds
     cast-cell
     mul-cell
-    element-copy-out-cell
+    array-copy-out-cell
     node-behind-requires
     sub-left
     loop-less

@@ -13,13 +13,13 @@ length-after-requires c κs = search needs
 
 returns : tie.Need-returns
 returns c =
-    let a = c .before .before .before .before .args in
+    let a = c .before .before .before .before .before .before .args in
     contents-short (a .machine) (a .out .now) (c .before .before .abstract-head .ensures) (c .before .length-after .ensures) (omega arith)
 
 write-items-requires : tie.Need-write-items-requires
 write-items-requires c κs =
     let tested = c .before in
-    let a = tested .before .before .before .before .args in
+    let a = tested .before .before .before .before .before .before .args in
     (counts-items (a .machine) (a .out .now) (tested .before .before .abstract-head .ensures) (tested .before .length-after .ensures), omega arith)
 
 same-length : tie.Need-same-length
@@ -28,7 +28,7 @@ same-length c = search needs
 returns-2 : tie.Need-returns-2
 returns-2 c =
     let tested = c .before .before .before .before in
-    let a = tested .before .before .before .before .args in
+    let a = tested .before .before .before .before .before .before .args in
     contents-fit (a .machine) (a .out .now) (tested .before .before .abstract-head .ensures) (tested .before .length-after .ensures) (omega arith) (c .before .before .write-items .ensures)
 
 pub write-spec : {M : Type 1} → statement M

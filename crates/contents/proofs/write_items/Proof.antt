@@ -14,10 +14,10 @@ use Rattle.contents.proofs.write_items.Statement.{statement}
 use Rattle.contents.proofs.write_items.Tie as tie
 
 abbrev Inv-loop : tie.InvT-loop
-Inv-loop node count out₀ machine at₀ i₀ out at i = (i ≤ count) × (length out ≡ length out₀) × (at ≡ walked (machine .links) node i) × (out ≡ paste out₀ 0 (itemsAfter machine node) i)
+Inv-loop node count out₀ links items at₀ i₀ out at i = (i ≤ count) × (length out ≡ length out₀) × (at ≡ walked links node i) × (out ≡ paste out₀ 0 (itemsAfter links items node) i)
 
 abbrev μ-loop : tie.MeasureT-loop
-μ-loop node count out₀ machine at₀ i₀ out at i = count - i
+μ-loop node count out₀ links items at₀ i₀ out at i = count - i
 
 loop-holds : tie.Need-loop-holds Inv-loop μ-loop
 unfolding walked
@@ -29,8 +29,8 @@ cast-cell c = search needs
 mul-cell : tie.Need-mul-cell Inv-loop μ-loop
 mul-cell c = search needs
 
-element-copy-out-cell : tie.Need-element-copy-out-cell Inv-loop μ-loop
-element-copy-out-cell c = search needs
+array-copy-out-cell : tie.Need-array-copy-out-cell Inv-loop μ-loop
+array-copy-out-cell c = search needs
 
 node-behind-requires : tie.Need-node-behind-requires Inv-loop μ-loop
 node-behind-requires c κs = search needs
@@ -41,8 +41,8 @@ cast-item c = search needs
 mul-item : tie.Need-mul-item Inv-loop μ-loop
 mul-item c = search needs
 
-element-copy-out-item : tie.Need-element-copy-out-item Inv-loop μ-loop
-element-copy-out-item c = search needs
+array-copy-out-item : tie.Need-array-copy-out-item Inv-loop μ-loop
+array-copy-out-item c = search needs
 
 mul-out : tie.Need-mul-out Inv-loop μ-loop
 mul-out c = search needs
@@ -60,13 +60,13 @@ loop-again : tie.Need-loop-again Inv-loop μ-loop
 loop-again c =
     let l = c .before .before .before .before .loop in
     let a = c .before .before .before .before .before .before .args in
-    let links = a .t1 .links in
+    let links = a .t1 in
     let next : suc (l .i) ≡ l .i + 1 = omega arith in
     let reached = c .before .node-behind .ensures ∙ (ap (λ (x : ℕ). nodeBehind (cellAt links x .link) x) (l .inv .2) ∙ walk-last links (a .node) (l .i)) in (
       omega arith,
       simp length-set (l .inv .1),
       reached ∙ ap (walked links (a .node)) next,
-      one-more-item (a .t1) (a .node) (l .i) (a .out .now) (l .out) (omega arith) (omega arith) (l .inv .3) reached,
+      one-more-item links (a .t2) (a .node) (l .i) (a .out .now) (l .out) (omega arith) (omega arith) (l .inv .3) reached,
     )
 
 same-length : tie.Need-same-length Inv-loop μ-loop
@@ -76,7 +76,7 @@ returns : tie.Need-returns Inv-loop μ-loop
 returns c =
     let l = c .before .loop in
     let a = c .before .before .before .args in
-    all-written (itemsAfter (a .t1) (a .node)) (a .out .now) (l .out) (l .i) (omega arith) (omega arith) (l .inv .3)
+    all-written (itemsAfter (a .t1) (a .t2) (a .node)) (a .out .now) (l .out) (l .i) (omega arith) (omega arith) (l .inv .3)
 
 pub write-items-spec : {M : Type 1} → statement M
 write-items-spec =
@@ -87,11 +87,11 @@ write-items-spec =
     loop-holds
     cast-cell
     mul-cell
-    element-copy-out-cell
+    array-copy-out-cell
     node-behind-requires
     cast-item
     mul-item
-    element-copy-out-item
+    array-copy-out-item
     mul-out
     slice-write-out
     add-i
