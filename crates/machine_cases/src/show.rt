@@ -2,7 +2,6 @@
 // `put` writes at a place of it and answers the place behind.
 ghost use Prim.Native.Nat.{_≤_};
 ghost use lib.ListN.{length};
-use answer::Answer;
 use entry::Entry;
 use lent::Writing;
 use machine::Machine;
@@ -38,34 +37,36 @@ pub(crate) fn entry(place: u32, told: Told, thread: u32) {
     entry_in(&mut line, place, told, thread);
 }
 
-fn entry_in(line: &mut [u8], place: u32, told: Told, thread: u32) {
+fn entry_in(out: &mut [u8], place: u32, told: Told, thread: u32) {
     let machine = told.machine;
     let answer = told.answer;
-    let mut at = put_number(line, 0, place);
-    at = put_answer(line, at, answer, told.steps);
-    at = put_machine(line, at, machine, thread);
-    at = put(line, at, b"\n");
-    io::write_all(1, &line[0..at]);
+    let depth = contents::depth(machine);
+    let text = line::entry(place, answer, told.steps, depth);
+    let bytes = text.bytes;
+    let mut at = put_line(out, &bytes, text.count);
+    at = put_machine(out, at, machine, thread);
+    at = put(out, at, b"\n");
+    io::write_all(1, &out[0..at]);
 }
 
-// The answer's word and value, and the steps.
-fn put_answer(line: &mut [u8], at: usize, answer: Answer, steps: u32) -> usize
-    requires { ⌜ at ≤ length (now line) ⌝ }
-    ensures { λ r. ⌜ r ≤ length (now (line .exit)) ⌝ }
+// The entry's line as in a listing, without its line end.
+fn put_line(out: &mut [u8], text: &[u8], count: usize) -> usize
+    ensures { λ r. ⌜ r ≤ length (now (out .exit)) ⌝ }
 {
-    let mut to = put(line, at, b" ");
-    to = put_word(line, to, answer);
-    to = put_field(line, to, answer.value());
-    put_field(line, to, steps)
+    if 0 < count {
+        if count <= text.len() {
+            return put(out, 0, &text[0..count - 1]);
+        }
+    }
+    0
 }
 
-// The depth, the step that the thread would take next, and the contents.
+// The step that the thread would take next, and the contents.
 fn put_machine(line: &mut [u8], at: usize, machine: Machine, thread: u32) -> usize
     requires { ⌜ at ≤ length (now line) ⌝ }
     ensures { λ r. ⌜ r ≤ length (now (line .exit)) ⌝ }
 {
-    let mut to = put_field(line, at, contents::depth(machine));
-    to = put(line, to, b" ");
+    let mut to = put(line, at, b" ");
     to = put_next(line, to, machine, thread);
     to = put(line, to, b" |");
     put_contents(line, to, machine)
@@ -107,21 +108,6 @@ fn put_field(line: &mut [u8], at: usize, number: u32) -> usize
     put_number(line, behind, number)
 }
 
-fn put_word(line: &mut [u8], at: usize, answer: Answer) -> usize
-    requires { ⌜ at ≤ length (now line) ⌝ }
-    ensures { λ r. ⌜ r ≤ length (now (line .exit)) ⌝ }
-{
-    match answer {
-        Answer::Started => put(line, at, b"started"),
-        Answer::Future(_) => put(line, at, b"future"),
-        Answer::Ok => put(line, at, b"ok"),
-        Answer::Item(_) => put(line, at, b"item"),
-        Answer::Empty => put(line, at, b"empty"),
-        Answer::More => put(line, at, b"more"),
-        Answer::Refused(_) => put(line, at, b"refused"),
-    }
-}
-
 // The step that a thread would take next; `none` where there is no such thread.
 fn put_next(line: &mut [u8], at: usize, machine: Machine, thread: u32) -> usize
     requires { ⌜ at ≤ length (now line) ⌝ }
@@ -132,6 +118,13 @@ fn put_next(line: &mut [u8], at: usize, machine: Machine, thread: u32) -> usize
     }
     let row = machine.rows[(thread % Entry::THREADS) as usize];
     let place = row.place;
+    put_place(line, at, place)
+}
+
+fn put_place(line: &mut [u8], at: usize, place: Place) -> usize
+    requires { ⌜ at ≤ length (now line) ⌝ }
+    ensures { λ r. ⌜ r ≤ length (now (line .exit)) ⌝ }
+{
     match place {
         Place::Idle => put(line, at, b"idle"),
         Place::Enqueue(_, step) => put_step(line, at, b'e', enqueue_digit(step)),
