@@ -4,6 +4,7 @@ use answer::Verdict;
 use lent::Writing;
 use listing::Listing;
 use listing::Opened;
+use machine::Machine;
 
 // Of the text told so far: its bytes, their sum, and the sum of the sums after each byte, which tells their
 // order too.
@@ -11,12 +12,6 @@ pub struct Sums {
     pub count: usize,
     pub sum: u32,
     pub order: u32,
-}
-
-// How far a schedule has been told.
-struct Told {
-    listing: Listing,
-    sums: Sums,
 }
 
 // Tells a schedule and shows its listing, but of the entries only those from a place on, or from the next
@@ -29,7 +24,7 @@ pub(crate) fn listing(s: &[u8], shown: u32) -> Sums {
         Verdict::Refused(_) => sums,
         Verdict::Accepted => {
             let listing = opened.listing;
-            last(entries(Told { listing, sums }, s, shown))
+            entries(listing, sums, s, shown)
         }
     }
 }
@@ -44,40 +39,24 @@ fn first(opened: Opened) -> Sums {
 }
 
 // A block tells an entry at least, and an entry takes a byte at least.
-fn entries(opened: Told, s: &[u8], shown: u32) -> Told {
-    let mut told = opened;
+fn entries(opened: Listing, first: Sums, s: &[u8], shown: u32) -> Sums {
+    let mut out = io::buffer();
+    let mut listing = opened;
+    let mut sums = first;
     let mut left = s.len();
     while 0 < left {
-        if told.listing.going {
-            told = told.block(s, shown);
+        if listing.going {
+            let place = listing.place;
+            let lines = listing.lines(s, &mut out);
+            sums = sums.tell_first(&out, lines.count, shown <= place);
+            listing = lines.listing;
             left -= 1;
         } else {
             left = 0;
         }
     }
-    told
-}
-
-fn last(told: Told) -> Sums {
-    let mut out = io::large_buffer();
-    let listing = told.listing;
     let machine = listing.machine;
-    let writing = line::queue(machine, &mut out);
-    let sums = told.sums;
-    sums.tell(&out, writing, true)
-}
-
-impl Told {
-    fn block(self, s: &[u8], shown: u32) -> Told {
-        let mut out = io::buffer();
-        let before = self.listing;
-        let lines = before.lines(s, &mut out);
-        let listing = lines.listing;
-        let count = lines.count;
-        let told = self.sums;
-        let sums = told.tell(&out, Writing::Wrote { count }, shown <= before.place);
-        Told { listing, sums }
-    }
+    sums.tell_last(machine)
 }
 
 impl Sums {
@@ -89,10 +68,12 @@ impl Sums {
         }
     }
 
-    // No line is longer than the buffers here, so none is refused.
-    fn tell(self, out: &[u8], writing: Writing, shown: bool) -> Sums {
+    // The line of what the queue holds is not longer than the buffer, so it is not refused.
+    fn tell_last(self, machine: Machine) -> Sums {
+        let mut out = io::large_buffer();
+        let writing = line::queue(machine, &mut out);
         match writing {
-            Writing::Wrote { count } => self.tell_first(out, count, shown),
+            Writing::Wrote { count } => self.tell_first(&out, count, true),
             Writing::Refused { refusal: _ } => self,
         }
     }

@@ -60,39 +60,39 @@ impl Machine {
     }
 
     // FutureEnqueue: a node, a future and a pending place.
-    fn defer_enqueue(self, at: usize, item: Item) -> Machine
+    fn defer_enqueue(mut self, at: usize, item: Item) -> Machine
         requires { ⌜ at < 8 ⌝ }
         ensures { λ r. ⌜ r ≡ deferEnqueue self at item ⌝ }
     {
         let row = self.row_at(at);
         let used = self.used;
         let node = used.next_node();
-        let with_node = self.hand_out_node(item);
-        let linked = with_node.linked_behind(row, node);
-        let with_future = linked.hand_out_future(at as u8, true);
-        with_future.with_row(at, row.with_enqueue(used.next_future(), node))
+        self = self.hand_out_node(item);
+        self = self.linked_behind(row, node);
+        self = self.hand_out_future(at as u8, true);
+        self.with_row(at, row.with_enqueue(used.next_future(), node))
     }
 
     // FutureDequeue: a future and a pending place.
-    fn defer_dequeue(self, at: usize) -> Machine
+    fn defer_dequeue(mut self, at: usize) -> Machine
         requires { ⌜ at < 8 ⌝ }
         ensures { λ r. ⌜ r ≡ deferDequeue self at ⌝ }
     {
         let row = self.row_at(at);
         let used = self.used;
-        let with_future = self.hand_out_future(at as u8, false);
-        with_future.with_row(at, row.with_dequeue(used.next_future()))
+        self = self.hand_out_future(at as u8, false);
+        self.with_row(at, row.with_dequeue(used.next_future()))
     }
 
     // A batch with an enqueue is handed its announcement.
-    fn announce(self, at: usize, row: Row, future: u16) -> Machine
+    fn announce(mut self, at: usize, row: Row, future: u16) -> Machine
         requires { ⌜ at < 8 ⌝ }
         ensures { λ r. ⌜ r ≡ announced self at row future ⌝ }
     {
         let used = self.used;
         let own = used.next_announcement();
-        let announcing = self.hand_out_announcement(row.request());
-        announcing.with_row(at, row.calling(Place::Batch(own, BatchStep::B1), future))
+        self = self.hand_out_announcement(row.request());
+        self.with_row(at, row.calling(Place::Batch(own, BatchStep::B1), future))
     }
 
     // Evaluate of a future that is not done: the whole pending list is set off as a batch.
@@ -109,7 +109,7 @@ impl Machine {
     }
 
     // Enqueue, accepted.
-    fn start_enqueue(self, at: usize, item: Item) -> Machine
+    fn start_enqueue(mut self, at: usize, item: Item) -> Machine
         requires { ⌜ at < 8 ⌝ }
         ensures { λ r. ⌜ r ≡ startEnqueue self at item ⌝ }
     {
@@ -117,15 +117,15 @@ impl Machine {
         let used = self.used;
         if row.count == 0 {
             let place = Place::Enqueue(used.next_node(), EnqueueStep::E1);
-            let with_node = self.hand_out_node(item);
-            return with_node.with_row(at, row.at(place));
+            self = self.hand_out_node(item);
+            return self.with_row(at, row.at(place));
         }
-        let deferred = self.defer_enqueue(at, item);
-        deferred.set_off(at, used.next_future())
+        self = self.defer_enqueue(at, item);
+        self.set_off(at, used.next_future())
     }
 
     // Dequeue, accepted.
-    fn start_dequeue(self, at: usize) -> Machine
+    fn start_dequeue(mut self, at: usize) -> Machine
         requires { ⌜ at < 8 ⌝ }
         ensures { λ r. ⌜ r ≡ startDequeue self at ⌝ }
     {
@@ -134,17 +134,20 @@ impl Machine {
         if row.count == 0 {
             return self.with_row(at, row.at(Place::Dequeue(DequeueStep::D1)));
         }
-        let deferred = self.defer_dequeue(at);
-        deferred.set_off(at, used.next_future())
+        self = self.defer_dequeue(at);
+        self.set_off(at, used.next_future())
     }
 
     // Evaluate of the thread's own future: its result at once where it is done.
-    fn evaluate_own(self, at: usize, future: u16, outcome: Outcome) -> Told
+    fn evaluate_own(mut self, at: usize, future: u16, outcome: Outcome) -> Told
         requires { ⌜ at < 8 ⌝ }
         ensures { λ r. ⌜ r ≡ asked self at future outcome ⌝ }
     {
         match outcome {
-            Outcome::Waiting => telling(self.set_off(at, future), Answer::Started),
+            Outcome::Waiting => {
+                self = self.set_off(at, future);
+                telling(self, Answer::Started)
+            }
             Outcome::Ok => telling(self, Answer::Ok),
             Outcome::Item(item) => telling(self, Answer::Item(item)),
             Outcome::Empty => telling(self, Answer::Empty),
@@ -152,7 +155,7 @@ impl Machine {
     }
 
     // An entry that was accepted; it can't refuse any more. `outcome` is that of the future that Evaluate names.
-    fn accepted(self, at: usize, entry: Entry, outcome: Outcome) -> Told
+    fn accepted(mut self, at: usize, entry: Entry, outcome: Outcome) -> Told
         requires { ⌜ at < 8 ⌝ }
         ensures { λ r. ⌜ r ≡ accepted self at entry outcome ⌝ }
     {
@@ -160,16 +163,21 @@ impl Machine {
         let future = Answer::Future(used.next_future() as u32);
         match entry {
             Entry::Enqueue { thread: _, item } => {
-                telling(
-                    self.start_enqueue(at, Item { value: item }),
-                    Answer::Started,
-                )
+                self = self.start_enqueue(at, Item { value: item });
+                telling(self, Answer::Started)
             }
-            Entry::Dequeue { thread: _ } => telling(self.start_dequeue(at), Answer::Started),
+            Entry::Dequeue { thread: _ } => {
+                self = self.start_dequeue(at);
+                telling(self, Answer::Started)
+            }
             Entry::FutureEnqueue { thread: _, item } => {
-                telling(self.defer_enqueue(at, Item { value: item }), future)
+                self = self.defer_enqueue(at, Item { value: item });
+                telling(self, future)
             }
-            Entry::FutureDequeue { thread: _ } => telling(self.defer_dequeue(at), future),
+            Entry::FutureDequeue { thread: _ } => {
+                self = self.defer_dequeue(at);
+                telling(self, future)
+            }
             Entry::Evaluate {
                 thread: _,
                 future: asked,

@@ -52,16 +52,17 @@ impl Machine {
     }
 
     // The end of a batch's call: paired, the row cleared, the answer that of the future that was asked for.
-    pub(crate) fn settle(self, at: usize, steps: u32, start: Cursor) -> Told
+    pub(crate) fn settle(mut self, at: usize, steps: u32, start: Cursor) -> Told
         requires { ⌜ at < 8 ⌝ }
         ensures { λ r. ⌜ r ≡ settled self at steps start ⌝ }
     {
         let row = self.row_at(at);
-        let paired = self.pair(row, start);
-        let asked = paired.future_at(row.future as u32);
+        self = self.pair(row, start);
+        let asked = self.future_at(row.future as u32);
         let outcome = asked.outcome;
+        self = self.with_row(at, row.cleared());
         Told {
-            machine: paired.with_row(at, row.cleared()),
+            machine: self,
             answer: outcome.answer(),
             steps,
         }

@@ -7,6 +7,7 @@ mod show;
 use answer::Verdict;
 use entry::Entry;
 use machine::Machine;
+use machine::Told;
 
 // The machine, and the place of the next entry since its set-up.
 struct Session {
@@ -71,15 +72,19 @@ impl Session {
         }
     }
 
-    // An entry, and the thread that it names. No input is long enough for the place to wrap.
+    // An entry, and the thread that it names.
     fn enter(self, entry: Entry, thread: u32) -> Session {
         let before = self.machine;
-        let told = before.apply(entry);
-        show::entry(self.place, told, thread);
-        let machine = told.machine;
-        Session {
-            machine,
-            place: std::num::wrapping_add_u32(self.place, 1),
-        }
+        shown(before.apply(entry), self.place, thread)
+    }
+}
+
+// What an entry at a place told is shown. No input is long enough for the place to wrap.
+fn shown(told: Told, place: u32, thread: u32) -> Session {
+    show::entry(place, told, thread);
+    let machine = told.machine;
+    Session {
+        machine,
+        place: std::num::wrapping_add_u32(place, 1),
     }
 }

@@ -4,6 +4,7 @@ ghost use Prim.Native.Nat.{_≤_};
 ghost use lib.ListN.{length};
 use entry::Entry;
 use lent::Writing;
+use line::Line;
 use machine::Machine;
 use machine::Told;
 use place::BatchStep;
@@ -33,17 +34,21 @@ pub(crate) fn refusal(refusal: Refusal) {
 
 // What an entry at a place gave, and the thread that it names.
 pub(crate) fn entry(place: u32, told: Told, thread: u32) {
-    let mut line = [0u8; ROOM];
-    entry_in(&mut line, place, told, thread);
+    let mut out = [0u8; ROOM];
+    let line = line_of(place, told);
+    let bytes = line.bytes;
+    let machine = told.machine;
+    show(&mut out, &bytes, line.count, machine, thread);
 }
 
-fn entry_in(out: &mut [u8], place: u32, told: Told, thread: u32) {
+fn line_of(place: u32, told: Told) -> Line {
     let machine = told.machine;
     let answer = told.answer;
-    let depth = contents::depth(machine);
-    let text = line::entry(place, answer, told.steps, depth);
-    let bytes = text.bytes;
-    let mut at = put_line(out, &bytes, text.count);
+    line::entry(place, answer, told.steps, contents::depth(machine))
+}
+
+fn show(out: &mut [u8], text: &[u8], count: usize, machine: Machine, thread: u32) {
+    let mut at = put_line(out, text, count);
     at = put_machine(out, at, machine, thread);
     at = put(out, at, b"\n");
     io::write_all(1, &out[0..at]);
@@ -116,30 +121,43 @@ fn put_next(line: &mut [u8], at: usize, machine: Machine, thread: u32) -> usize
     if machine.threads <= thread {
         return put(line, at, b"none");
     }
-    let row = machine.rows[(thread % Entry::THREADS) as usize];
-    let place = row.place;
-    put_place(line, at, place)
+    put_step(line, at, step_of(place_of(machine, thread)))
 }
 
-fn put_place(line: &mut [u8], at: usize, place: Place) -> usize
-    requires { ⌜ at ≤ length (now line) ⌝ }
-    ensures { λ r. ⌜ r ≤ length (now (line .exit)) ⌝ }
-{
+fn place_of(machine: Machine, thread: u32) -> Place {
+    let row = machine.rows[(thread % Entry::THREADS) as usize];
+    row.place
+}
+
+// A step by its letter and digit; idle has none.
+struct Step {
+    letter: u8,
+    digit: u8,
+}
+
+fn named(letter: u8, digit: u8) -> Step {
+    Step { letter, digit }
+}
+
+fn step_of(place: Place) -> Step {
     match place {
-        Place::Idle => put(line, at, b"idle"),
-        Place::Enqueue(_, step) => put_step(line, at, b'e', enqueue_digit(step)),
-        Place::Dequeue(step) => put_step(line, at, b'd', dequeue_digit(step)),
-        Place::Batch(_, step) => put_step(line, at, b'b', batch_digit(step)),
-        Place::Dequeues(step) => put_step(line, at, b'q', dequeues_digit(step)),
-        Place::Running(_, step, _) => put_step(line, at, b'a', run_digit(step)),
+        Place::Idle => named(0, 0),
+        Place::Enqueue(_, step) => named(b'e', enqueue_digit(step)),
+        Place::Dequeue(step) => named(b'd', dequeue_digit(step)),
+        Place::Batch(_, step) => named(b'b', batch_digit(step)),
+        Place::Dequeues(step) => named(b'q', dequeues_digit(step)),
+        Place::Running(_, step, _) => named(b'a', run_digit(step)),
     }
 }
 
-fn put_step(line: &mut [u8], at: usize, letter: u8, digit: u8) -> usize
+fn put_step(line: &mut [u8], at: usize, step: Step) -> usize
     requires { ⌜ at ≤ length (now line) ⌝ }
     ensures { λ r. ⌜ r ≤ length (now (line .exit)) ⌝ }
 {
-    let name = [letter, digit];
+    if step.letter == 0 {
+        return put(line, at, b"idle");
+    }
+    let name = [step.letter, step.digit];
     put(line, at, &name)
 }
 
