@@ -1,5 +1,5 @@
 -- The abstract head and the contents, as the code finds them one value after the other, are those of the definitions.
-use Prim.Native.Nat.{ℕ, suc, _+_, _%_, _<_, _≤_}
+use Prim.Native.Nat.{ℕ, suc, _+_, _<_, _≤_}
 use mathlib.Core.Path.{_≡_, sym, ap, ap₂, _∙_}
 use mathlib.Core.Bool.{Bool, cond}
 use mathlib.Core.List.{List, _++_}
@@ -21,7 +21,7 @@ use Rattle.place.specs.declared.RunStep.{RunStep}
 use Rattle.running.specs.Running.{walkTo}
 use Rattle.answer.specs.declared.Item.{Item}
 use Rattle.machine.specs.declared.Machine.{Machine}
-use Rattle.machine.specs.State.{noItem}
+use Rattle.machine.specs.State.{itemIn}
 use Rattle.contents.proofs.Chains.{chain-element, mapped-element}
 use Rattle.contents.specs.Contents.{walked, reached, headToBe, leadsTo, oldTailHead, announcedHead, abstractHead, chainAfter, itemsAfter, contents}
 
@@ -52,9 +52,9 @@ pub one-more-item : (links : List Cell) (items : List Item) (node i : ℕ) (buf 
     → i < length buf
     → out ≡ paste buf 0 (itemsAfter links items node) i
     → n ≡ walked links node (suc i)
-    → set out i (getD items (n % 512) noItem .value) ≡ paste buf 0 (itemsAfter links items node) (i + 1)
+    → set out i (itemIn items n .value) ≡ paste buf 0 (itemsAfter links items node) (i + 1)
 one-more-item links items node i buf out {n} h k e w =
-    let value : ℕ → ℕ = λ x. getD items (x % 512) noItem .value in
+    let value : ℕ → ℕ = λ x. itemIn items x .value in
     let chain : List ℕ = chainAfter 512 links node in
     let all : List ℕ = itemsAfter links items node in
     let here : i < length chain = omega (arith, length-map chain value) in

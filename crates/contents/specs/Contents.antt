@@ -1,9 +1,8 @@
 -- 01, "Contents and order of effect": the abstract head, the items of the chain after it, and the depth.
-use Prim.Native.Nat.{ℕ, zero, suc, _-_, _%_}
+use Prim.Native.Nat.{ℕ, zero, suc, _-_}
 use mathlib.Core.Bool.{Bool, false, cond}
 use mathlib.Core.List.{List, [], _∷_, map}
 use lib.Dec.{eqb}
-use lib.ListN.{getD}
 use Rattle.cells.specs.declared.Tail.{Tail}
 use Rattle.cells.specs.declared.Front.{Front}
 use Rattle.cells.specs.declared.Head.{Head}
@@ -21,7 +20,7 @@ use Rattle.place.specs.declared.RunStep.the-variants.{A1, A2, A3, A4, A5, A6, A
 use Rattle.running.specs.Running.{walkTo}
 use Rattle.answer.specs.declared.Item.{Item}
 use Rattle.machine.specs.declared.Machine.{Machine}
-use Rattle.machine.specs.State.{noItem}
+use Rattle.machine.specs.State.{itemIn}
 use Rattle.pairing.specs.Pairing.{nodeBehind}
 
 -- the node that n links lead to from a node; a walk that meets no link stays, which none of a reachable machine does
@@ -73,7 +72,7 @@ chainAfter zero links x = []
 chainAfter (suc n) links x = ifLinked (cellAt links x .link) (chainAfter n links (nodeBehind (cellAt links x .link) x))
 
 abbrev pub itemsAfter : List Cell → List Item → ℕ → List ℕ
-itemsAfter links items x = map (λ n. getD items (n % 512) noItem .value) (chainAfter 512 links x)
+itemsAfter links items x = map (λ n. itemIn items n .value) (chainAfter 512 links x)
 
 -- contents are the items of the chain after the abstract head
 unfoldable pub contents : Machine → List ℕ

@@ -99,8 +99,10 @@ impl Listing {
         let mut left = out.len() / Line::BYTES;
         while 0 < left {
             if listing.going {
-                let next = listing.next_line(input, out, at);
-                at += next.count;
+                let next = listing.next(input);
+                let line = next.line;
+                put(out, at, line);
+                at += line.count;
                 listing = next.listing;
                 left -= 1;
             } else {
@@ -110,22 +112,7 @@ impl Listing {
         Lines { listing, count: at }
     }
 
-    // Writes the next entry's line at a place of out.
-    fn next_line(self, s: &[u8], out: &mut [u8], at: usize) -> Lines
-        requires { ⌜ at + 64 ≤ length (now out) ⌝ }
-        ensures { λ r. ⌜ (r ≡ told (nextLine (now (s .entry)) self)) × (now (out .exit) ≡ writtenAt at (nextLine (now (s .entry)) self .text) (now (out .entry))) ⌝ }
-    {
-        let next = self.next(s);
-        let line = next.line;
-        put(out, at, line);
-        let listing = next.listing;
-        Lines {
-            listing,
-            count: line.count,
-        }
-    }
-
-    // By what is read there: the end, a refusal, or an entry.
+    // By what is read next: the end, a refusal, or an entry.
     fn next(self, s: &[u8]) -> Next
         ensures { λ r. ⌜ r ≡ next (nextLine (now (s .entry)) self) ⌝ }
     {

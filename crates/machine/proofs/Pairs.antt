@@ -1,10 +1,9 @@
 -- A turn of the loop that pairs a batch's results with its futures is one turn of the definition. The loop changes the futures alone,
 -- so the links and items that it reads are those that the machine had where it began.
-use Prim.Native.Nat.{ℕ, suc, _+_, _-_, _%_, _<_}
+use Prim.Native.Nat.{ℕ, suc, _+_, _-_, _<_}
 use mathlib.Core.Path.{_≡_, sym, ap, ap₂, _∙_}
 use mathlib.Core.List.{List}
 use native.Mathlib.Omega.{arith}
-use lib.ListN.{getD, set}
 use Rattle.memory.specs.Memory.{cellAt}
 use Rattle.answer.specs.declared.Item.{Item}
 use Rattle.answer.specs.declared.Future.{Future}
@@ -14,8 +13,8 @@ use Rattle.pairing.specs.Pairing.{nodeBehind, nextOf, pay}
 use Rattle.cells.specs.declared.Cell.{Cell}
 use Rattle.row.specs.declared.Row.{Row}
 use Rattle.machine.specs.declared.Machine.{Machine}
-use Rattle.machine.specs.State.{rowAt, withFutures, noItem, noFuture}
-use Rattle.machine.specs.Pairing.{done, paidTo, pairFrom, pairingOf, pairing}
+use Rattle.machine.specs.State.{rowAt, withFutures, itemIn}
+use Rattle.machine.specs.Pairing.{paidTo, pendingFuture, withOutcome, pairFrom, pairingOf, pairing}
 
 pub pair-turn : (m₀ m : Machine) (last : ℕ) (pending : List ℕ) (count k : ℕ) (c : Cursor) {z : List Future} {nb nx : ℕ} {pd : Paid}
     → k < count
@@ -24,26 +23,26 @@ pub pair-turn : (m₀ m : Machine) (last : ℕ) (pending : List ℕ) (count k : 
     → nb ≡ nodeBehind (cellAt (m .links) (c .at) .link) (c .at)
     → nx ≡ nextOf (c .supply)
     → pd
-    ≡ pay (c .at) (c .supply) (getD (m .futures) (getD pending (k % 32) 0 % 512) noFuture .enqueue)
+    ≡ pay (c .at) (c .supply) (pendingFuture pending k (m .futures) .enqueue)
     (record {
       behind = cellAt (m .links) (c .at) .link;
       node = nb;
-      item = getD (m .items) (nb % 512) noItem;
+      item = itemIn (m .items) nb;
       «behind_next» = cellAt (m .links) nx .link;
       last = last;
     })
     → pairFrom (count - (k + 1)) (m₀ .links) (m₀ .items) last pending (k + 1)
-    (set (m .futures) (getD pending (k % 32) 0 % 512) (done (getD (m .futures) (getD pending (k % 32) 0 % 512) noFuture) (pd .outcome)))
+    (withOutcome pending k (m .futures) (pd .outcome))
     (pd .cursor)
     ≡ z
 unfolding pairFrom
 pair-turn m₀ m last pending count k c {z} {nb} {nx} {pd} h same inv e1 e2 e3 =
-    let x : Future = getD (m .futures) (getD pending (k % 32) 0 % 512) noFuture in
+    let x : Future = pendingFuture pending k (m .futures) in
     let here : pd ≡ paidTo (m .links) (m .items) last c x = e3 ∙ simp (e1, e2) in
     let there : paidTo (m .links) (m .items) last c x ≡ paidTo (m₀ .links) (m₀ .items) last c x =
     ap₂ (λ (ls : List Cell) (is : List Item). paidTo ls is last c x) (ap (λ (y : Machine). y .links) same) (ap (λ (y : Machine). y .items) same) in
     let one : count - k ≡ suc (count - (k + 1)) = omega arith in
-    ap (λ (q : Paid). pairFrom (count - (k + 1)) (m₀ .links) (m₀ .items) last pending (k + 1) (set (m .futures) (getD pending (k % 32) 0 % 512) (done x (q .outcome))) (q .cursor)) (here ∙ there)
+    ap (λ (q : Paid). pairFrom (count - (k + 1)) (m₀ .links) (m₀ .items) last pending (k + 1) (withOutcome pending k (m .futures) (q .outcome)) (q .cursor)) (here ∙ there)
     ∙ (ap (λ (n : ℕ). pairFrom n (m₀ .links) (m₀ .items) last pending k (m .futures) c) (sym one) ∙ inv)
 
 -- where no pending call is left, the futures are those of the definition

@@ -19,14 +19,14 @@ use Rattle.pairing.specs.declared.Paid.{Paid}
 use Rattle.pairing.specs.declared.Around.{Around}
 use Rattle.answer.specs.Answer.{answered}
 use Rattle.pairing.specs.Pairing.{nodeBehind, nextOf, pay}
-use Rattle.machine.specs.State.{rowAt, withRow, withFutures, futureAt, noItem, noFuture}
+use Rattle.machine.specs.State.{rowAt, withRow, withFutures, futureAt, itemIn, noFuture}
 
 -- what a turn reads: links and items as they are, the batch's last node
 abbrev pub around : List Cell → List Item → ℕ → Cursor → Around
 around links items last c = record {
   behind = cellAt links (c .at) .link;
   node = nodeBehind (cellAt links (c .at) .link) (c .at);
-  item = getD items (nodeBehind (cellAt links (c .at) .link) (c .at) % 512) noItem;
+  item = itemIn items (nodeBehind (cellAt links (c .at) .link) (c .at));
   «behind_next» = cellAt links (nextOf (c .supply)) .link;
   last = last;
 }

@@ -58,9 +58,12 @@ withMemory m x = record {
 abbrev pub rowAt : Machine → ℕ → Row
 rowAt m i = getD (m .rows) i noRow
 
--- the item of a node, and a future, by their numbers; the remainders make it total
+-- the item of a node, among some or of a machine, and a future, by their numbers; the remainders make it total
+abbrev pub itemIn : List Item → ℕ → Item
+itemIn items n = getD items (n % 512) noItem
+
 abbrev pub itemAt : Machine → ℕ → Item
-itemAt m n = getD (m .items) (n % 512) noItem
+itemAt m n = itemIn (m .items) n
 
 abbrev pub futureAt : Machine → ℕ → Future
 futureAt m f = getD (m .futures) (f % 512) noFuture

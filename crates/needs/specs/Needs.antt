@@ -53,6 +53,7 @@ evaluateNeeds r = record { node = false; future = false; announcement = some (r 
 abbrev pub nothing : Needs
 nothing = record { node = false; future = false; announcement = false }
 
+-- of any entry; of Evaluate, where its future is not done
 abbrev pub needsOf : Entry → Row → Needs
 needsOf (Enqueue t v) r = enqueueNeeds r
 needsOf (Dequeue t) r = dequeueNeeds r

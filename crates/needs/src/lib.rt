@@ -60,7 +60,7 @@ fn evaluate_needs(row: Row) -> Needs
     }
 }
 
-// Of any entry. Step and Run need nothing.
+// Of any entry; of Evaluate, where its future is not done.
 pub fn of(entry: Entry, row: Row) -> Needs
     ensures { λ r. ⌜ r ≡ needsOf entry row ⌝ }
 {

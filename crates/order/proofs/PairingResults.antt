@@ -2,7 +2,7 @@
 -- are those of the nodes behind the current head, and right behind them are the nodes of the enqueues to come. In a batch with an enqueue the
 -- next enqueue's link leads to the first of those; so the link behind the current head is the same link exactly where the plain list is empty,
 -- for no node stands in the chain twice. "No more can succeed" is said at the batch's last node, where nothing is behind and nothing is to come.
-use Prim.Native.Nat.{ℕ, suc, _+_, _-_, _%_, _<_, _≤_}
+use Prim.Native.Nat.{ℕ, suc, _+_, _-_, _<_, _≤_}
 use mathlib.Core.Path.{_≡_, refl, sym, ap, ap₂, _∙_, subst}
 use mathlib.Core.Bool.{Bool, true, false, _||_, or-true, true≢false}
 use mathlib.Core.List.{List, [], _∷_, _++_, map, append-assoc, map-append, cons-ne-nil}
@@ -30,7 +30,7 @@ use Rattle.pairing.specs.declared.Supply.the-variants.{Batch, Dequeues}
 use Rattle.pairing.specs.declared.Cursor.{Cursor}
 use Rattle.pairing.specs.declared.Paid.{Paid}
 use Rattle.pairing.specs.Pairing.{nodeBehind, sameLink, pay, payBatch, payDequeues}
-use Rattle.machine.specs.State.{noItem}
+use Rattle.machine.specs.State.{itemIn}
 use Rattle.order.specs.Outcomes.{outcomeOf}
 use Rattle.machine.specs.Pairing.{pendingFuture, withOutcome, batchCursor, dequeuesCursor}
 use Rattle.order.specs.PairingReads.{Turn, turns}
@@ -40,7 +40,7 @@ use Rattle.order.proofs.PairingCounts.{isEnqueue, FlaggedFrom, Flagged,
 
 -- the item of a node
 abbrev pub valueOf : List Item → ℕ → ℕ
-valueOf items n = getD items (n % 512) noItem .value
+valueOf items n = itemIn items n .value
 
 -- what the turns pay, in their order
 abbrev pub outcomes : List Turn → List Outcome

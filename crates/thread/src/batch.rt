@@ -2,7 +2,6 @@
 ghost use mathlib.Core.Path.{_≡_};
 ghost use Rattle.thread.specs.Batch.{batchAccess, batchAfter, afterB1, afterB2};
 use access::Access;
-use cells::Front;
 use cells::Head;
 use found::Found;
 use place::After;

@@ -2,7 +2,6 @@
 ghost use mathlib.Core.Path.{_≡_};
 ghost use Rattle.thread.specs.Dequeues.{dequeuesAccess, dequeuesAfter, stopped, oneFurther, goesTo, afterQ1, afterQ2, afterQ3};
 use access::Access;
-use cells::Front;
 use cells::Head;
 use cells::Link;
 use found::Found;

@@ -3,11 +3,10 @@
 use Prim.Native.Nat.{ℕ, _-_, _%_, _≤_}
 use mathlib.Core.Path.{_≡_, refl, ap}
 use native.Mathlib.Omega.{arith}
-use lib.ListN.{getD, set}
 use borrow.Author.Needs.{needs}
 use Rattle.machine.specs.declared.Machine.{Machine}
-use Rattle.machine.specs.State.{withFutures, noFuture}
-use Rattle.machine.specs.Pairing.{done, pairFrom}
+use Rattle.machine.specs.State.{withFutures}
+use Rattle.machine.specs.Pairing.{withOutcome, pairFrom}
 use Rattle.machine.proofs.Pairs.{pair-turn, paired}
 use Rattle.machine.proofs.Machine.pair.Statement.{statement}
 use Rattle.machine.proofs.Machine.pair.Tie as tie
@@ -101,8 +100,7 @@ loop-again c =
     let l = turn .before .loop in
     let start = turn .before .before .before .before .args in
     let row = start .row in
-    let f = getD (row .pending) (l .k % 32) 0 % 512 in
-    let fs = set (l .self .futures) f (done (getD (l .self .futures) f noFuture) (c .before .pay .result .outcome)) in (
+    let fs = withOutcome (row .pending) (l .k) (l .self .futures) (c .before .pay .result .outcome) in (
       omega (arith, turn .loop-test),
       ap (λ (m : Machine). withFutures m fs) (l .inv .1),
       pair-turn (start .t1) (l .self) (row .last) (row .pending) (row .count % 33) (l .k) (l .cursor) (turn .loop-test .taken) (l .inv .1) (l .inv .2) (c .before .before .before .before .before .node-behind .ensures) (c .before .before .before .next-node .ensures) (c .before .pay .ensures),
