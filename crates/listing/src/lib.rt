@@ -16,6 +16,7 @@ use machine::Told;
 use refusal::Refusal;
 use schedule::read::EntryReading;
 use schedule::read::SetUpReading;
+use set_up::SetUp;
 
 // How far a schedule has been told: the machine, the place of the next entry's first byte, the next entry's
 // place among the entries, and whether entries go on there.
@@ -75,7 +76,7 @@ impl Opened {
         ensures { λ r. ⌜ r ≡ openedAt verdict threads nodes from ⌝ }
     {
         let listing = Listing {
-            machine: Machine::fresh(threads, nodes),
+            machine: SetUp::fresh(threads, nodes),
             from,
             place: 0,
             going: true,

@@ -2,11 +2,7 @@
 use mathlib.Core.Path.{refl}
 use Rattle.contracts.specs.Determined.{Determines}
 use Rattle.contracts.proofs.Told.{nothing-required, together, answer}
-use Rattle.machine.proofs.Machine.fresh
 use Rattle.machine.proofs.Machine.apply
-
-pub fresh-determined : {M : Type 1} → Determines M fresh.ended fresh.clauses
-fresh-determined = record { for-all-inputs = nothing-required; one-outcome = λ i x y. together i (answer refl) }
 
 pub apply-determined : {M : Type 1} → Determines M apply.ended apply.clauses
 apply-determined = record { for-all-inputs = nothing-required; one-outcome = λ i x y. together i (answer refl) }

@@ -10,27 +10,16 @@ pub mod hand_out;
 pub mod pair;
 
 ghost use mathlib.Core.Path.{_≡_};
-ghost use Rattle.machine.specs.State.{endsAtTheDummy, freshMachine, rowAt, itemAt, futureAt, withRow};
+ghost use Rattle.machine.specs.State.{rowAt, itemAt, futureAt, withRow};
 ghost use Prim.Native.Nat.{_<_};
-ghost use Rattle.memory.specs.Memory.{noAnnouncement};
 use answer::Answer;
 use answer::Future;
 use answer::Item;
-use answer::Outcome;
 use cells::Announcement;
 use cells::Cell;
-use cells::DequeueCount;
 use cells::Ends;
-use cells::EnqueueCount;
-use cells::Front;
-use cells::Head;
-use cells::Link;
-use cells::OldTail;
-use cells::Request;
-use cells::Tail;
 use next::Used;
 use row::Row;
-use tally::Tally;
 
 // `links` and `items` by node, `announcements` and `futures` by their numbers, `rows` by thread. `threads`
 // and `nodes` are the numbers of the set-up.
@@ -62,33 +51,6 @@ impl Machine {
 
     pub const ANNOUNCEMENTS: usize = 64;
 
-    // One dummy node, number 0, at which head and tail point; both counts zero; every thread idle, with
-    // nothing pending.
-    pub fn fresh(threads: u32, nodes: u32) -> Machine
-        ensures { λ r. ⌜ r ≡ freshMachine threads nodes ⌝ }
-    {
-        let nothing = Future {
-            owner: 0,
-            enqueue: false,
-            outcome: Outcome::Waiting,
-        };
-        Machine {
-            ends: ends_at_the_dummy(),
-            links: [Cell { link: Link::None }; Machine::NODES],
-            announcements: [unused_announcement(); Machine::ANNOUNCEMENTS],
-            items: [Item { value: 0 }; Machine::NODES],
-            futures: [nothing; Machine::FUTURES],
-            rows: [Row::fresh(); Machine::THREADS],
-            threads,
-            nodes,
-            used: Used {
-                nodes: 1,
-                futures: 0,
-                announcements: 0,
-            },
-        }
-    }
-
     // Reads of one element. To the checker a function that indexes an array of its own machine holds the
     // machine a second time; one that reads through these and hands the machine on does not.
     pub(crate) fn row_at(self, thread: usize) -> Row
@@ -116,37 +78,5 @@ impl Machine {
     {
         self.rows[thread] = row;
         self
-    }
-}
-
-fn ends_at_the_dummy() -> Ends
-    ensures { λ r. ⌜ r ≡ endsAtTheDummy ⌝ }
-{
-    Ends {
-        head: Head::Plain(Front {
-            node: 0,
-            count: DequeueCount(0),
-        }),
-        tail: Tail {
-            node: 0,
-            count: EnqueueCount(0),
-        },
-    }
-}
-
-fn unused_announcement() -> Announcement
-    ensures { λ r. ⌜ r ≡ noAnnouncement ⌝ }
-{
-    Announcement {
-        request: Request {
-            first: 0,
-            last: 0,
-            tally: Tally::none(),
-            old_head: Front {
-                node: 0,
-                count: DequeueCount(0),
-            },
-        },
-        old_tail: OldTail::Unset,
     }
 }

@@ -8,6 +8,7 @@ use answer::Verdict;
 use entry::Entry;
 use machine::Machine;
 use machine::Told;
+use set_up::SetUp;
 
 // The machine, and the place of the next entry since its set-up.
 struct Session {
@@ -26,7 +27,7 @@ fn main() {
 // begins.
 fn run_lines(input: &[u8]) {
     let mut session = Session {
-        machine: Machine::fresh(1, 2),
+        machine: SetUp::fresh(1, 2),
         place: 0,
     };
     let mut from = 0;
@@ -57,7 +58,7 @@ impl Session {
 
     // A new machine; the one before where it is refused.
     fn set_up(self, threads: u32, nodes: u32) -> Session {
-        let made = set_up::of(threads, nodes);
+        let made = SetUp::of(threads, nodes);
         let verdict = made.verdict;
         match verdict {
             Verdict::Refused(refusal) => {

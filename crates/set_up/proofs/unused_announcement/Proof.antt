@@ -1,7 +1,7 @@
--- `machine::unused_announcement` meets its contract.
+-- `set_up::unused_announcement` meets its contract.
 use borrow.Author.Needs.{needs}
-use Rattle.machine.proofs.unused_announcement.Statement.{statement}
-use Rattle.machine.proofs.unused_announcement.Tie as tie
+use Rattle.set_up.proofs.unused_announcement.Statement.{statement}
+use Rattle.set_up.proofs.unused_announcement.Tie as tie
 
 none-requires : tie.Need-none-requires
 none-requires c κs = search needs

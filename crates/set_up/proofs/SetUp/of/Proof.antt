@@ -1,7 +1,7 @@
--- `set_up::of` meets its contract.
+-- `set_up::SetUp::of` meets its contract.
 use borrow.Author.Needs.{needs}
-use Rattle.set_up.proofs.of.Statement.{statement}
-use Rattle.set_up.proofs.of.Tie as tie
+use Rattle.set_up.proofs.SetUp.of.Statement.{statement}
+use Rattle.set_up.proofs.SetUp.of.Tie as tie
 
 in-range-requires : tie.Need-in-range-requires
 in-range-requires c κs = search needs

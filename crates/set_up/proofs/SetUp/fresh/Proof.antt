@@ -1,7 +1,7 @@
--- `machine::Machine::fresh` meets its contract.
+-- `set_up::SetUp::fresh` meets its contract.
 use borrow.Author.Needs.{needs}
-use Rattle.machine.proofs.Machine.fresh.Statement.{statement}
-use Rattle.machine.proofs.Machine.fresh.Tie as tie
+use Rattle.set_up.proofs.SetUp.fresh.Statement.{statement}
+use Rattle.set_up.proofs.SetUp.fresh.Tie as tie
 
 ends-at-the-dummy-requires : tie.Need-ends-at-the-dummy-requires
 ends-at-the-dummy-requires c κs = search needs
