@@ -78,10 +78,11 @@ itemsAfter links items x = map (λ n. itemIn items n .value) (chainAfter 512 lin
 unfoldable pub contents : Machine → List ℕ
 contents m = itemsAfter (m .links) (m .items) (abstractHead m)
 
--- depth: tail count less head count (the old head's while an announcement is in the head), 0 where that is negative
+-- the head, or the old head while an announcement is in it
 abbrev pub frontOf : Head → List Announcement → Front
 frontOf (Plain f) announcements = f
 frontOf (Announced a) announcements = announcementAt announcements a .request .«old_head»
 
+-- depth: tail count less head count (the old head's while an announcement is in the head), 0 where that is negative
 unfoldable pub depth : Machine → ℕ
 depth m = m .ends .tail .count .0 - frontOf (m .ends .head) (m .announcements) .count .0

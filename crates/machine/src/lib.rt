@@ -22,7 +22,7 @@ use next::Used;
 use row::Row;
 
 // `links` and `items` by node, `announcements` and `futures` by their numbers, `rows` by thread. `threads`
-// and `nodes` are the numbers of the set-up.
+// and `nodes` are the numbers of the set-up; crate `set_up` makes a fresh machine of them.
 pub struct Machine {
     pub ends: Ends,
     pub links: [Cell; Machine::NODES],

@@ -32,9 +32,9 @@ use Rattle.running.specs.Running.{walkTo}
 use Rattle.row.specs.Row.{noRow}
 use Rattle.machine.specs.declared.Machine.{Machine}
 use Rattle.machine.specs.State.{itemAt}
-use Rattle.contents.specs.Contents.{reached, headToBe, leadsTo, oldTailHead, headNode, abstractHead, chainAfter, contents}
+use Rattle.contents.specs.Contents.{reached, headToBe, leadsTo, oldTailHead, headNode, abstractHead, chainAfter, contents, frontOf}
 use Rattle.order.proofs.Ghost.{Ghost}
-use Rattle.order.specs.Promises.{requestIn, headOrOld, EveryLinkLeadsOn}
+use Rattle.order.specs.Promises.{requestIn, EveryLinkLeadsOn}
 use Rattle.order.proofs.Shared.{sharedOf, no-link}
 use Rattle.order.proofs.Invariant.{TailAt, FrontAt, Linked, NotLinked, InvEnds, Inv}
 use Rattle.order.proofs.Ends.{chain-fits}
@@ -93,10 +93,10 @@ module _ (m : Machine) (g : Ghost) (i : Inv (sharedOf m) g) where
   position-once-linked a p e l = ap (positionOf (m .announcements) g) e ∙ if-linked g (i .ends) _ a p l (linked-or-not (g .by) a)
 
   -- the head, or the old head while an announcement is in it, is a node of the chain
-  pub head-or-old-head-at : FrontAt g (headOrOld m (m .ends .head))
+  pub head-or-old-head-at : FrontAt g (frontOf (m .ends .head) (m .announcements))
   head-or-old-head-at = by-head (m .ends .head) refl
     where
-      by-head : (h : Head) → m .ends .head ≡ h → FrontAt g (headOrOld m h)
+      by-head : (h : Head) → m .ends .head ≡ h → FrontAt g (frontOf h (m .announcements))
       by-head (Plain f) e = i .head .headAt f e
       by-head (Announced a) e = i .head .oldHeadAt a (i .head .thereInstalled a e)
 

@@ -12,9 +12,7 @@ use Rattle.chain.specs.Positions.{At, In, Once}
 use Rattle.chain.specs.Chain.{following}
 use Rattle.cells.specs.declared.Cell.{Cell}
 use Rattle.cells.specs.declared.Tail.{Tail}
-use Rattle.cells.specs.declared.Front.{Front}
-use Rattle.cells.specs.declared.Head.{Head}
-use Rattle.cells.specs.declared.Head.the-variants.{Plain, Announced}
+use Rattle.cells.specs.declared.Head.the-variants.{Announced}
 use Rattle.cells.specs.declared.Link.the-variants.{None, To}
 use Rattle.cells.specs.declared.OldTail.the-variants.{Set}
 use Rattle.cells.specs.declared.Request.{Request}
@@ -33,7 +31,7 @@ use Rattle.entry.specs.declared.Entry.{Entry}
 use Rattle.machine.specs.declared.Machine.{Machine}
 use Rattle.machine.specs.State.{rowAt, memoryOf}
 use Rattle.machine.specs.Steps.{hop}
-use Rattle.contents.specs.Contents.{walked, leadsTo, abstractHead, chainAfter}
+use Rattle.contents.specs.Contents.{walked, leadsTo, abstractHead, chainAfter, frontOf}
 use Rattle.order.specs.Links.{next, nodesFrom, ifNone}
 use Rattle.order.specs.Events.{Event, EnqueueStarts, DequeueStarts, EnqueueDeferred, DequeueDeferred, BatchSetOff, FutureAsked, StepTaken, keptBeside, events}
 use Rattle.order.specs.Fits.{Fits}
@@ -122,13 +120,8 @@ TailNear m steps = LastOf (linked steps) (m .ends .tail .node) ⊎ OneBehind (m 
 abbrev pub requestIn : Machine → ℕ → Request
 requestIn m a = announcementAt (m .announcements) a .request
 
--- the head, or the old head while an announcement is in it
-abbrev pub headOrOld : Machine → Head → Front
-headOrOld m (Plain f) = f
-headOrOld m (Announced a) = requestIn m a .«old_head»
-
 pub record HeadsLinked (m : Machine) (steps : List (List ℕ)) : Type 0 where
-  pub head : In (linked steps) (headOrOld m (m .ends .head) .node)
+  pub head : In (linked steps) (frontOf (m .ends .head) (m .announcements) .node)
   pub abstract : In (linked steps) (abstractHead m)
 
 -- Walks. The node that a6 or q2 reads the link of is linked; a6 never meets a missing link. (At q2 a missing link ends the walk.)
