@@ -1,11 +1,13 @@
 // The accesses that a step can make (01, "Steps": one step is one access), and which cells each reaches.
+#![tactic(auto)]
+
 ghost use Rattle.std.specs.Prelude.{◌≡◌, ◌<◌};
 ghost use Rattle.access.specs.Reach.{node_of, announcement_of};
 
 use cells::{Announcement, Cell, Front, Head, Tail};
 
 // One access. A link is only ever compared with none and swapped.
-#[derive(Drop)]
+#[derive(Clone, Copy)]
 pub enum Access {
     ReadHead,
     ReadTail,
@@ -22,6 +24,7 @@ pub enum Access {
 // announcement from 64 on.
 impl Access {
     // The node whose link the access reaches.
+    #[tactic(auto, unfolding(crate::specs::Reach::node_of))]
     pub fn node(self) -> usize
         ensures { (result ≡ node_of self) × (result < 512) }
     {
@@ -39,6 +42,7 @@ impl Access {
     }
 
     // The announcement that the access reaches.
+    #[tactic(auto, unfolding(crate::specs::Reach::announcement_of))]
     pub fn announcement(self) -> usize
         ensures { (result ≡ announcement_of self) × (result < 64) }
     {

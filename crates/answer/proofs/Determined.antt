@@ -5,8 +5,8 @@ use Rattle.contracts.proofs.Told.{nothing_required, together, answer}
 use Rattle.answer.specs.contracts.Outcome.answer as outcome-answer
 use Rattle.answer.specs.contracts.Answer.value
 
-pub outcome_answer_determined : {M : Type 1} → Determines M outcome-answer.ended outcome-answer.clauses
+pub outcome_answer_determined : {M : Type 1} → Determines M outcome-answer.ended (λ 𝓤. outcome-answer.clauses {𝓤 = 𝓤})
 outcome_answer_determined = record { for_all_inputs = nothing_required; one_outcome = λ i x y. together i (answer refl) }
 
-pub value_determined : {M : Type 1} → Determines M value.ended value.clauses
+pub value_determined : {M : Type 1} → Determines M value.ended (λ 𝓤. value.clauses {𝓤 = 𝓤})
 value_determined = record { for_all_inputs = nothing_required; one_outcome = λ i x y. together i (answer refl) }

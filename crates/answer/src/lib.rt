@@ -1,16 +1,18 @@
 // What is handed over: items, the outcomes of futures, and the answers of entries.
+#![tactic(auto)]
+
 ghost use Rattle.std.specs.Prelude.{◌≡◌};
 ghost use Rattle.answer.specs.Answer.{answered, value};
 
 use refusal::Refusal;
 
-#[derive(Drop)]
+#[derive(Clone, Copy)]
 pub struct Item {
     pub value: u32,
 }
 
 // The result of a deferred call, once it is done.
-#[derive(Drop)]
+#[derive(Clone, Copy)]
 pub enum Outcome {
     Waiting,
     Ok,
@@ -19,14 +21,14 @@ pub enum Outcome {
 }
 
 // A deferred call: the thread that made it, whether it is an enqueue, and its result.
-#[derive(Drop)]
+#[derive(Clone, Copy)]
 pub struct Future {
     pub owner: u8,
     pub enqueue: bool,
     pub outcome: Outcome,
 }
 
-#[derive(Drop)]
+#[derive(Clone, Copy)]
 pub enum Answer {
     Started,
     Future(u32),
@@ -38,7 +40,7 @@ pub enum Answer {
 }
 
 // Whether a refusal is given; nothing has changed yet.
-#[derive(Drop)]
+#[derive(Clone, Copy)]
 pub enum Verdict {
     Accepted,
     Refused(Refusal),

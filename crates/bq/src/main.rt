@@ -1,5 +1,7 @@
 // The listing program: reads a schedule from standard input and writes its listing to standard output, in
 // blocks. What is written is made by the crates listing and line; this is the reading and writing alone.
+#![tactic(auto)]
+
 use answer::Verdict;
 use lent::Writing;
 use listing::{Listing, Opened};

@@ -7,14 +7,14 @@ use Rattle.cells.specs.contracts.Tail.same as tail-same
 use Rattle.cells.specs.contracts.Front.past as front_past
 use Rattle.cells.specs.contracts.Head.same as head-same
 
-pub tail_past_determined : {M : Type 1} → Determines M tail-past.ended tail-past.clauses
+pub tail_past_determined : {M : Type 1} → Determines M tail-past.ended (λ 𝓤. tail-past.clauses {𝓤 = 𝓤})
 tail_past_determined = record { for_all_inputs = nothing_required; one_outcome = λ i x y. together i (answer refl) }
 
-pub tail_same_determined : {M : Type 1} → Determines M tail-same.ended tail-same.clauses
+pub tail_same_determined : {M : Type 1} → Determines M tail-same.ended (λ 𝓤. tail-same.clauses {𝓤 = 𝓤})
 tail_same_determined = record { for_all_inputs = nothing_required; one_outcome = λ i x y. together i (answer refl) }
 
-pub front_past_determined : {M : Type 1} → Determines M front_past.ended front_past.clauses
+pub front_past_determined : {M : Type 1} → Determines M front_past.ended (λ 𝓤. front_past.clauses {𝓤 = 𝓤})
 front_past_determined = record { for_all_inputs = nothing_required; one_outcome = λ i x y. together i (answer refl) }
 
-pub head_same_determined : {M : Type 1} → Determines M head-same.ended head-same.clauses
+pub head_same_determined : {M : Type 1} → Determines M head-same.ended (λ 𝓤. head-same.clauses {𝓤 = 𝓤})
 head_same_determined = record { for_all_inputs = nothing_required; one_outcome = λ i x y. together i (answer refl) }

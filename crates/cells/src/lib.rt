@@ -1,55 +1,57 @@
 // The cells of shared memory: the head, the tail, one link for each node and one old tail for each
 // announcement. What never changes after the entry that made it (a batch's first and last node, its tally)
 // stands beside them.
+#![tactic(auto)]
+
 ghost use Rattle.std.specs.Prelude.{◌≡◌};
 ghost use Rattle.cells.specs.Ends.{past_tail, past_front, same_tail, same_front, same_head};
 
 use tally::Tally;
 
 // The enqueue count stands beside the tail, the dequeue count beside the head; they are never mixed.
-#[derive(Drop)]
+#[derive(Clone, Copy)]
 pub struct EnqueueCount(pub u32);
 
-#[derive(Drop)]
+#[derive(Clone, Copy)]
 pub struct DequeueCount(pub u32);
 
-#[derive(Drop)]
+#[derive(Clone, Copy)]
 pub struct Tail {
     pub node: u16,
     pub count: EnqueueCount,
 }
 
 // The head as it is while no announcement is in it.
-#[derive(Drop)]
+#[derive(Clone, Copy)]
 pub struct Front {
     pub node: u16,
     pub count: DequeueCount,
 }
 
-#[derive(Drop)]
+#[derive(Clone, Copy)]
 pub enum Head {
     Plain(Front),
     Announced(u8),
 }
 
-#[derive(Drop)]
+#[derive(Clone, Copy)]
 pub struct Ends {
     pub head: Head,
     pub tail: Tail,
 }
 
-#[derive(Drop)]
+#[derive(Clone, Copy)]
 pub enum Link {
     None,
     To(u16),
 }
 
-#[derive(Drop)]
+#[derive(Clone, Copy)]
 pub struct Cell {
     pub link: Link,
 }
 
-#[derive(Drop)]
+#[derive(Clone, Copy)]
 pub enum OldTail {
     Unset,
     Set(Tail),
@@ -57,7 +59,7 @@ pub enum OldTail {
 
 // What a batch asks for, and the head that its announcement was laid over. The old head is written at
 // b2, before anybody else can see the announcement, and stays while anybody may run it.
-#[derive(Drop)]
+#[derive(Clone, Copy)]
 pub struct Request {
     pub first: u16,
     pub last: u16,
@@ -65,7 +67,7 @@ pub struct Request {
     pub old_head: Front,
 }
 
-#[derive(Drop)]
+#[derive(Clone, Copy)]
 pub struct Announcement {
     pub request: Request,
     pub old_tail: OldTail,

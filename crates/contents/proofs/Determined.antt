@@ -5,8 +5,8 @@ use Rattle.contracts.proofs.Told.{nothing_required, together, answer, answer_and
 use Rattle.contents.specs.contracts.write
 use Rattle.contents.specs.contracts.depth
 
-pub write_determined : {M : Type 1} → Determines M write.ended write.clauses
+pub write_determined : {M : Type 1} → Determines M write.ended (λ 𝓤. write.clauses {𝓤 = 𝓤})
 write_determined = record { for_all_inputs = nothing_required; one_outcome = λ i x y. together i (answer_and_second refl) }
 
-pub depth_determined : {M : Type 1} → Determines M depth.ended depth.clauses
+pub depth_determined : {M : Type 1} → Determines M depth.ended (λ 𝓤. depth.clauses {𝓤 = 𝓤})
 depth_determined = record { for_all_inputs = nothing_required; one_outcome = λ i x y. together i (answer refl) }

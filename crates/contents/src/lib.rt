@@ -1,4 +1,6 @@
 // Contents and depth (01, "Contents and order of effect").
+#![tactic(auto)]
+
 ghost use Rattle.std.specs.Prelude.{◌≡◌, ◌≤◌, length};
 ghost use Rattle.contents.specs.Contents.{abstract_head, announced_head, head_to_be, walked, contents, chain_after, items_after, leads_to, front_of, depth};
 ghost use Rattle.lent.specs.Lent.{writing, written};
@@ -13,6 +15,7 @@ use refusal::Refusal;
 use tally::less;
 
 // The node that so many links lead to from a node.
+#[tactic(auto, unfolding(crate::specs::Contents::walked))]
 fn walked(links: [Cell; Machine::NODES], from: u16, many: u32) -> u16
     ensures { result ≡ walked links from many }
 {
@@ -75,6 +78,7 @@ fn announced_head(links: [Cell; Machine::NODES], tail: Tail, announcement: Annou
     }
 }
 
+#[tactic(auto, unfolding(crate::specs::Contents::abstract_head))]
 fn abstract_head(machine: Machine) -> u16
     ensures { result ≡ abstract_head machine }
 {
@@ -92,6 +96,7 @@ fn abstract_head(machine: Machine) -> u16
 }
 
 // How many nodes stand behind a node.
+#[tactic(auto, unfolding(crate::specs::Contents::chain_after))]
 fn length_after(links: [Cell; Machine::NODES], node: u16) -> usize
     ensures { result ≡ length (chain_after 512 links node) }
 {
@@ -138,6 +143,7 @@ fn write_items(
 
 // Writes what the queue holds at the start of `out`, oldest first. Refused, and `out` left as it is:
 // NoRoom where it does not fit.
+#[tactic(auto, unfolding(crate::specs::Contents::contents))]
 pub fn write(machine: Machine, out: &mut [u32]) -> Writing
     ensures { (result ≡ writing (contents machine) out.old) × (out.new ≡ written (contents machine) out.old) }
 {
@@ -170,6 +176,7 @@ fn front_of(head: Head, announcements: [Announcement; Machine::ANNOUNCEMENTS]) -
 
 // The tail's count less the head's, the old head's while an announcement is in the head; 0 where that
 // is negative.
+#[tactic(auto, unfolding(crate::specs::Contents::depth))]
 pub fn depth(machine: Machine) -> u32
     ensures { result ≡ depth machine }
 {

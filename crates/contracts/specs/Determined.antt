@@ -28,7 +28,7 @@ module _ (M : Type 1) (f : Ended) (c : Contract M f) where
     pub ghost : (c 𝓤 𝓛 mem run lifetimes args).ghost
 
   abbrev clauses : (i : Input) → ClausesAt i.𝓤 f i.lifetimes
-  clauses i = c i.𝓤 i i.mem i.run i.lifetimes i.args
+  clauses i = c i.𝓤 i.𝓛 i.mem i.run i.lifetimes i.args
 
   -- the answer, and what is left behind each `&mut`
   abbrev pub Outcome : Input → Type 0

@@ -1,4 +1,6 @@
 // The entries of 01, and the numbers that a set-up may have.
+#![tactic(auto)]
+
 ghost use Rattle.std.specs.Prelude.{◌≡◌};
 ghost use Rattle.entry.specs.Operands.{thread_of, future_of};
 ghost use Rattle.entry.specs.Range.{in_range};
@@ -7,7 +9,7 @@ use answer::Verdict;
 use refusal::Refusal;
 
 // An entry with its operands, as 01's table has them.
-#[derive(Drop)]
+#[derive(Clone, Copy)]
 pub enum Entry {
     Enqueue { thread: u32, item: u32 },
     Dequeue { thread: u32 },

@@ -1,4 +1,6 @@
 // What an access found, and what a step goes on with.
+#![tactic(auto)]
+
 ghost use Rattle.std.specs.Prelude.{◌≡◌};
 ghost use Rattle.found.specs.Found.{head_in, tail_in, link_in, old_tail_in, taken_in};
 
@@ -6,7 +8,7 @@ use cells::{EnqueueCount, Head, Link, OldTail, Tail};
 
 // The value read; the link that a CAS of a link found, so that none means taken; whether another CAS was
 // taken.
-#[derive(Drop)]
+#[derive(Clone, Copy)]
 pub enum Found {
     Head(Head),
     Tail(Tail),

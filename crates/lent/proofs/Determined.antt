@@ -4,5 +4,5 @@ use Rattle.contracts.specs.Determined.{Determines}
 use Rattle.contracts.proofs.Told.{nothing_required, together, answer_and_first}
 use Rattle.lent.specs.contracts.put
 
-pub put_determined : {M : Type 1} → Determines M put.ended put.clauses
+pub put_determined : {M : Type 1} → Determines M put.ended (λ 𝓤. put.clauses {𝓤 = 𝓤})
 put_determined = record { for_all_inputs = nothing_required; one_outcome = λ i x y. together i (answer_and_first refl) }

@@ -1,12 +1,14 @@
 // What a function answers that writes into a lent buffer. What the buffer then holds is defined in
 // specs/, once for all that write.
+#![tactic(auto)]
+
 ghost use Rattle.std.specs.Prelude.{◌≡◌};
 ghost use Rattle.lent.specs.Lent.{writing, written};
 
 use refusal::Refusal;
 
 // The count of places written, from the buffer's start, or why nothing was.
-#[derive(Drop)]
+#[derive(Clone, Copy)]
 pub enum Writing {
     Wrote { count: usize },
     Refused { refusal: Refusal },
@@ -21,6 +23,6 @@ pub fn put(buf: &mut [u8], text: &[u8]) -> Writing
             refusal: Refusal::NoRoom,
         };
     }
-    let count = bytes::copy(text, buf);
-    Writing::Wrote { count }
+    buf[..text.len()].copy_from_slice(text);
+    Writing::Wrote { count: text.len() }
 }

@@ -1,5 +1,7 @@
 // The lines of a listing as text (01, "Schedule bytes and listing"): the set-up's, an entry's, and that of
 // what the queue holds. Which lines a schedule gets is the crate listing's.
+#![tactic(auto)]
+
 mod put;
 
 ghost use Rattle.std.specs.Prelude.{◌≡◌, ◌≤◌, length, take};
@@ -14,7 +16,7 @@ use machine::Machine;
 use refusal::Refusal;
 
 // A line by value: its text from the start, zeros behind.
-#[derive(Drop)]
+#[derive(Clone, Copy)]
 pub struct Line {
     pub bytes: [u8; Line::BYTES],
     pub count: usize,
@@ -26,6 +28,7 @@ impl Line {
 }
 
 // The set-up's line, or the one that says why it is refused.
+#[tactic(auto, unfolding(crate::specs::Line::line_of))]
 pub fn first(verdict: Verdict, machine: Machine) -> Line
     ensures { result ≡ line_of (first_text verdict machine) }
 {
@@ -35,6 +38,7 @@ pub fn first(verdict: Verdict, machine: Machine) -> Line
     }
 }
 
+#[tactic(auto, unfolding(crate::specs::Line::line_of, crate::specs::Text::set_up_text))]
 fn set_up(threads: u32, nodes: u32) -> Line
     ensures { result ≡ line_of (set_up_text threads nodes) }
 {
@@ -43,6 +47,7 @@ fn set_up(threads: u32, nodes: u32) -> Line
     Line { bytes, count }
 }
 
+#[tactic(auto, unfolding(crate::specs::Line::line_of, crate::specs::Text::refused_text))]
 fn refused(refusal: Refusal) -> Line
     ensures { result ≡ line_of (refused_text refusal) }
 {
@@ -52,6 +57,7 @@ fn refused(refusal: Refusal) -> Line
 }
 
 // The line of the entry at a place: the answer's word and value, the steps taken, the depth after it.
+#[tactic(auto, unfolding(crate::specs::Line::line_of, crate::specs::Text::entry_text))]
 pub fn entry(place: u32, answer: Answer, steps: u32, depth: u32) -> Line
     ensures { result ≡ line_of (entry_text place answer steps depth) }
 {
@@ -64,6 +70,7 @@ pub fn entry(place: u32, answer: Answer, steps: u32, depth: u32) -> Line
 const QUEUE: usize = 5640;
 
 // Writes the line of what the queue holds. Refused, and out left as it is: NoRoom.
+#[tactic(auto, unfolding(crate::specs::Text::queue_text))]
 pub fn queue(machine: Machine, out: &mut [u8]) -> Writing
     ensures { (result ≡ writing (queue_text (contents machine)) out.old) × (out.new ≡ written (queue_text (contents machine)) out.old) }
 {
@@ -76,6 +83,7 @@ pub fn queue(machine: Machine, out: &mut [u8]) -> Writing
 }
 
 // Of the first `count` items.
+#[tactic(auto, unfolding(crate::specs::Text::queue_text))]
 fn queue_of(items: &[u32], count: usize, out: &mut [u8]) -> Writing
     requires { (count ≤ length items.now) × (count ≤ 512) }
     ensures { (result ≡ writing (queue_text (take count items.now)) out.old) × (out.new ≡ written (queue_text (take count items.now)) out.old) }

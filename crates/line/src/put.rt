@@ -49,6 +49,7 @@ fn word(out: &mut [u8], at: usize, answer: Answer) -> usize
 }
 
 // An entry's line: its place, the answer's word and value, the steps, the depth.
+#[tactic(auto, unfolding(crate::specs::Text::entry_text))]
 pub(crate) fn entry_line(
     line: &mut [u8],
     place: u32,
@@ -67,6 +68,7 @@ pub(crate) fn entry_line(
     text(line, end, b"\n")
 }
 
+#[tactic(auto, unfolding(crate::specs::Text::set_up_text))]
 pub(crate) fn set_up_line(line: &mut [u8], threads: u32, nodes: u32) -> usize
     requires { 64 ≤ length line.old }
     ensures { (result ≡ length (set_up_text threads nodes)) × (line.new ≡ written_at 0 (set_up_text threads nodes) line.old) }
@@ -77,6 +79,7 @@ pub(crate) fn set_up_line(line: &mut [u8], threads: u32, nodes: u32) -> usize
     text(line, end, b"\n")
 }
 
+#[tactic(auto, unfolding(crate::specs::Text::refused_text))]
 pub(crate) fn refused_line(line: &mut [u8], refusal: Refusal) -> usize
     requires { 64 ≤ length line.old }
     ensures { (result ≡ length (refused_text refusal)) × (line.new ≡ written_at 0 (refused_text refusal) line.old) }
@@ -87,6 +90,7 @@ pub(crate) fn refused_line(line: &mut [u8], refusal: Refusal) -> usize
 }
 
 // What the queue holds: the first `count` items.
+#[tactic(auto, unfolding(crate::specs::Text::queue_text))]
 pub(crate) fn queue_line(line: &mut [u8], items: &[u32], count: usize) -> usize
     requires { (count ≤ length items.now) × (count ≤ 512) × (5640 ≤ length line.old) }
     ensures { (result ≡ length (queue_text (take count items.now))) × (line.new ≡ written_at 0 (queue_text (take count items.now)) line.old) }
@@ -96,6 +100,7 @@ pub(crate) fn queue_line(line: &mut [u8], items: &[u32], count: usize) -> usize
     text(line, end, b"\n")
 }
 
+#[tactic(auto, unfolding(crate::specs::Text::fields))]
 fn fields(line: &mut [u8], at: usize, items: &[u32], count: usize) -> usize
     requires { (count ≤ length items.now) × (count ≤ 512) × (at + 11 * count ≤ length line.old) }
     ensures { (result ≡ at + length (fields (take count items.now))) × (line.new ≡ written_at at (fields (take count items.now)) line.old) }

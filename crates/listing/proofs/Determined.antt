@@ -5,8 +5,8 @@ use Rattle.contracts.proofs.Told.{nothing_required, together, answer, answer_and
 use Rattle.listing.specs.contracts.Opened.of as opened_of
 use Rattle.listing.specs.contracts.Listing.lines
 
-pub opened_of_determined : {M : Type 1} → Determines M opened_of.ended opened_of.clauses
+pub opened_of_determined : {M : Type 1} → Determines M opened_of.ended (λ 𝓤. opened_of.clauses {𝓤 = 𝓤})
 opened_of_determined = record { for_all_inputs = nothing_required; one_outcome = λ i x y. together i (answer refl) }
 
-pub lines_determined : {M : Type 1} → Determines M lines.ended lines.clauses
+pub lines_determined : {M : Type 1} → Determines M lines.ended (λ 𝓤. lines.clauses {𝓤 = 𝓤})
 lines_determined = record { for_all_inputs = nothing_required; one_outcome = λ i x y. together i (answer_and_third refl) }

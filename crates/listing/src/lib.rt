@@ -1,6 +1,8 @@
 // The listing of a schedule (01, "Schedule bytes and listing"): what it begins with, and a line for each
 // entry; the text of lines is the crate line's. It is told piece by piece, so that one buffer serves however
 // long it is; that the pieces are the whole listing is proved beside.
+#![tactic(auto)]
+
 ghost use Rattle.std.specs.Prelude.{◌≡◌, ◌+◌, ◌/◌, ◌^◌, ◌<◌, ◌≤◌, length, take};
 ghost use Rattle.lent.specs.Lent.{written, written_at};
 ghost use Rattle.listing.specs.Listing.{counted};
@@ -16,7 +18,7 @@ use set_up::SetUp;
 
 // How far a schedule has been told: the machine, the place of the next entry's first byte, the next entry's
 // place among the entries, and whether entries go on there.
-#[derive(Drop)]
+#[derive(Clone, Copy)]
 pub struct Listing {
     pub machine: Machine,
     pub from: usize,
@@ -25,21 +27,21 @@ pub struct Listing {
 }
 
 // What a schedule begins with; the listing counts only where the set-up is accepted.
-#[derive(Drop)]
+#[derive(Clone, Copy)]
 pub struct Opened {
     pub verdict: Verdict,
     pub listing: Listing,
 }
 
 // The listing after some of its lines, and how many bytes these took.
-#[derive(Drop)]
+#[derive(Clone, Copy)]
 pub struct Lines {
     pub listing: Listing,
     pub count: usize,
 }
 
 // The next entry's line, and the listing after it.
-#[derive(Drop)]
+#[derive(Clone, Copy)]
 struct Next {
     line: Line,
     listing: Listing,
@@ -114,6 +116,7 @@ impl Listing {
     }
 
     // By what is read next: the end, a refusal, or an entry.
+    #[tactic(auto, unfolding(crate::specs::Pieces::next_line))]
     fn next(self, s: &[u8]) -> Next
         ensures { result ≡ next (next_line s.now self) }
     {

@@ -1,6 +1,8 @@
 // Lists the schedules on standard input through the crates listing and line, and writes their listings to
 // standard output. What has to come out is worked out from 01 by tools/listing_cases.py, which also says what
 // stands on a line of the input.
+#![tactic(auto)]
+
 mod script;
 mod show;
 

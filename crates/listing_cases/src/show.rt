@@ -7,7 +7,7 @@ use machine::Machine;
 
 // Of the text told so far: its bytes, their sum, and the sum of the sums after each byte, which tells their
 // order too.
-#[derive(Drop)]
+#[derive(Clone, Copy)]
 pub struct Sums {
     pub count: usize,
     pub sum: u32,

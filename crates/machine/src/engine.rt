@@ -9,7 +9,7 @@ use pairing::{Cursor, Supply};
 use place::{After, Place};
 
 // The machine after some steps, how the last one went on, and how many there were.
-#[derive(Drop)]
+#[derive(Clone, Copy)]
 pub struct Ran {
     pub machine: Machine,
     pub after: After,

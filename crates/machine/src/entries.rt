@@ -35,6 +35,7 @@ fn telling(machine: Machine, answer: Answer) -> Told
 // What an entry starts. `at` is the thread's place among the rows.
 impl Machine {
     // A pending enqueue's node stands behind the one before it, where there is one.
+    #[tactic(auto, unfolding(crate::specs::Entries::linked_behind))]
     fn linked_behind(mut self, row: Row, node: u16) -> Machine
         ensures { result ≡ linked_behind self row node }
     {
@@ -51,6 +52,7 @@ impl Machine {
     }
 
     // FutureEnqueue: a node, a future and a pending place.
+    #[tactic(auto, unfolding(crate::specs::Entries::defer_enqueue))]
     fn defer_enqueue(mut self, at: usize, item: Item) -> Machine
         requires { at < 8 }
         ensures { result ≡ defer_enqueue self at item }
@@ -65,6 +67,7 @@ impl Machine {
     }
 
     // FutureDequeue: a future and a pending place.
+    #[tactic(auto, unfolding(crate::specs::Entries::defer_dequeue))]
     fn defer_dequeue(mut self, at: usize) -> Machine
         requires { at < 8 }
         ensures { result ≡ defer_dequeue self at }
@@ -87,6 +90,7 @@ impl Machine {
     }
 
     // Evaluate of a future that is not done: the whole pending list is set off as a batch.
+    #[tactic(auto, unfolding(crate::specs::Entries::set_off))]
     fn set_off(self, at: usize, future: u16) -> Machine
         requires { at < 8 }
         ensures { result ≡ set_off self at future }
@@ -100,6 +104,7 @@ impl Machine {
     }
 
     // Enqueue, accepted.
+    #[tactic(auto, unfolding(crate::specs::Entries::start_enqueue))]
     fn start_enqueue(mut self, at: usize, item: Item) -> Machine
         requires { at < 8 }
         ensures { result ≡ start_enqueue self at item }
@@ -116,6 +121,7 @@ impl Machine {
     }
 
     // Dequeue, accepted.
+    #[tactic(auto, unfolding(crate::specs::Entries::start_dequeue))]
     fn start_dequeue(mut self, at: usize) -> Machine
         requires { at < 8 }
         ensures { result ≡ start_dequeue self at }
@@ -130,6 +136,7 @@ impl Machine {
     }
 
     // Evaluate of the thread's own future: its result at once where it is done.
+    #[tactic(auto, unfolding(crate::specs::Entries::asked))]
     fn evaluate_own(mut self, at: usize, future: u16, outcome: Outcome) -> Told
         requires { at < 8 }
         ensures { result ≡ asked self at future outcome }
@@ -146,6 +153,7 @@ impl Machine {
     }
 
     // An entry that was accepted; it can't refuse any more. `outcome` is that of the future that Evaluate names.
+    #[tactic(auto, unfolding(crate::specs::Entries::accepted))]
     fn accepted(mut self, at: usize, entry: Entry, outcome: Outcome) -> Told
         requires { at < 8 }
         ensures { result ≡ accepted self at entry outcome }

@@ -4,6 +4,8 @@
 // Numbers that the machine holds are plain numbers, so the code stays defined for every machine: an index
 // is taken by its remainder, a count goes up with wrap and down to 0. No machine that entries reach from
 // fresh meets one of these.
+#![tactic(auto)]
+
 pub mod engine;
 pub mod entries;
 pub mod hand_out;
@@ -19,7 +21,7 @@ use row::Row;
 
 // `links` and `items` by node, `announcements` and `futures` by their numbers, `rows` by thread. `threads`
 // and `nodes` are the numbers of the set-up; crate `set_up` makes a fresh machine of them.
-#[derive(Drop)]
+#[derive(Clone, Copy)]
 pub struct Machine {
     pub ends: Ends,
     pub links: [Cell; Machine::NODES],
@@ -33,7 +35,7 @@ pub struct Machine {
 }
 
 // The machine after an entry, its answer, and the steps that it took.
-#[derive(Drop)]
+#[derive(Clone, Copy)]
 pub struct Told {
     pub machine: Machine,
     pub answer: Answer,

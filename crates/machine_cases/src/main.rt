@@ -1,6 +1,8 @@
 // Runs the machine over the scripts on standard input, and shows on a line of standard output what each
 // entry gave. What has to come out is worked out from 01 by tools/machine_cases.py, which also says what
 // stands on a line of the input and on one of the output.
+#![tactic(auto)]
+
 mod script;
 mod show;
 
@@ -10,7 +12,7 @@ use machine::{Machine, Told};
 use set_up::SetUp;
 
 // The machine, and the place of the next entry since its set-up.
-#[derive(Drop)]
+#[derive(Clone, Copy)]
 struct Session {
     machine: Machine,
     place: u32,

@@ -7,7 +7,7 @@ use entry::Entry;
 const LAST: u32 = 4294967295;
 
 // A number, and where in its line the next one begins.
-#[derive(Drop)]
+#[derive(Clone, Copy)]
 pub struct Number {
     pub value: u32,
     pub next: usize,

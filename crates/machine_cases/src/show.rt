@@ -124,7 +124,7 @@ fn place_of(machine: Machine, thread: u32) -> Place {
 }
 
 // A step by its letter and digit; idle has none.
-#[derive(Drop)]
+#[derive(Clone, Copy)]
 struct Step {
     letter: u8,
     digit: u8,

@@ -4,5 +4,5 @@ use Rattle.contracts.specs.Determined.{Determines}
 use Rattle.contracts.proofs.Told.{nothing_required, together, answer}
 use Rattle.memory.specs.contracts.made
 
-pub made_determined : {M : Type 1} → Determines M made.ended made.clauses
+pub made_determined : {M : Type 1} → Determines M made.ended (λ 𝓤. made.clauses {𝓤 = 𝓤})
 made_determined = record { for_all_inputs = nothing_required; one_outcome = λ i x y. together i (answer refl) }

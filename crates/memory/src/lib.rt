@@ -1,5 +1,7 @@
 // Shared memory, and the one access that a step makes of it (01, "Steps": one step is one access). A thread
 // never touches a cell: it says which access it makes, and `made` makes it.
+#![tactic(auto)]
+
 ghost use Rattle.std.specs.Prelude.{◌≡◌};
 ghost use Rattle.memory.specs.Made.{on, cas_link, cas_tail, cas_head, write_old_tail, announce};
 
@@ -8,20 +10,21 @@ use cells::{Announcement, Cell, Ends, Front, Head, Link, OldTail, Request, Tail}
 use found::Found;
 
 // The cells that one access can reach: both ends, one link, one announcement.
-#[derive(Drop)]
+#[derive(Clone, Copy)]
 pub struct Cells {
     pub ends: Ends,
     pub cell: Cell,
     pub announcement: Announcement,
 }
 
-#[derive(Drop)]
+#[derive(Clone, Copy)]
 pub struct Hit {
     pub cells: Cells,
     pub found: Found,
 }
 
 // The access made on the cells that it reaches.
+#[tactic(auto, unfolding(crate::specs::Made::on))]
 pub fn made(access: Access, ends: Ends, cell: Cell, announcement: Announcement) -> Hit
     ensures { result ≡ on access (record { ends = ends; cell = cell; announcement = announcement }) }
 {
@@ -33,6 +36,7 @@ pub fn made(access: Access, ends: Ends, cell: Cell, announcement: Announcement) 
     on_cells(access, cells)
 }
 
+#[tactic(auto, unfolding(crate::specs::Made::on))]
 fn on_cells(access: Access, cells: Cells) -> Hit
     ensures { result ≡ on access cells }
 {

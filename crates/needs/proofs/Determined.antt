@@ -5,8 +5,8 @@ use Rattle.contracts.proofs.Told.{nothing_required, together, answer}
 use Rattle.needs.specs.contracts.of
 use Rattle.needs.specs.contracts.Needs.lacking as needs-lacking
 
-pub of_determined : {M : Type 1} → Determines M of.ended of.clauses
+pub of_determined : {M : Type 1} → Determines M of.ended (λ 𝓤. of.clauses {𝓤 = 𝓤})
 of_determined = record { for_all_inputs = nothing_required; one_outcome = λ i x y. together i (answer refl) }
 
-pub needs_lacking_determined : {M : Type 1} → Determines M needs-lacking.ended needs-lacking.clauses
+pub needs_lacking_determined : {M : Type 1} → Determines M needs-lacking.ended (λ 𝓤. needs-lacking.clauses {𝓤 = 𝓤})
 needs_lacking_determined = record { for_all_inputs = nothing_required; one_outcome = λ i x y. together i (answer refl) }

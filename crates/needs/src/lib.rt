@@ -1,4 +1,6 @@
 // What an entry has to be handed out, and 01's refusals 4 to 7: something that it needs is not left.
+#![tactic(auto)]
+
 ghost use Rattle.std.specs.Prelude.{◌≡◌};
 ghost use Rattle.needs.specs.Needs.{short, lacking, enqueue_needs, dequeue_needs, deferred_needs, evaluate_needs, needs_of};
 
@@ -9,7 +11,7 @@ use refusal::Refusal;
 use row::Row;
 
 // A future goes with a pending place.
-#[derive(Drop)]
+#[derive(Clone, Copy)]
 pub struct Needs {
     pub node: bool,
     pub future: bool,

@@ -1,9 +1,11 @@
 // What has been handed out, and the number that comes next.
+#![tactic(auto)]
+
 ghost use Rattle.std.specs.Prelude.{◌≡◌};
 ghost use Rattle.next.specs.Next.{next_node, next_future, next_announcement};
 
 // How many nodes, futures and announcements have been handed out.
-#[derive(Drop)]
+#[derive(Clone, Copy)]
 pub struct Used {
     pub nodes: u32,
     pub futures: u32,

@@ -3,6 +3,8 @@
 //
 // A line of the input is a comment that begins with '#', or a case: bytes in hex, a blank between two,
 // and in front of them '@', a place and a blank where the reading starts elsewhere than at 0.
+#![tactic(auto)]
+
 ghost use Rattle.std.specs.Prelude.{◌≤◌, ◌<◌, length};
 
 use lent::Writing;
@@ -16,7 +18,7 @@ const ROOM: usize = 7;
 const LAST_PLACE: usize = 18446744073709551615;
 
 // Where a case is read, and where in its line the bytes begin.
-#[derive(Drop)]
+#[derive(Clone, Copy)]
 struct Start {
     place: usize,
     bytes: usize,

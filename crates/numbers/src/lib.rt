@@ -1,5 +1,7 @@
 // Numbers as schedules have them (01, "Schedule bytes and listing"): groups of seven bits, low group
 // first, the top bit set when another follows; below 2^32, in at most five bytes, and in one way only.
+#![tactic(auto)]
+
 ghost use Rattle.std.specs.Prelude.{◌≡◌, ◌+◌, ◌≤◌, ◌<◌, ◌^◌, length, take, drop};
 ghost use Rattle.numbers.specs.Read.{number_at, following, before, last_group, value_of};
 ghost use Rattle.numbers.specs.Write.{groups_of};
@@ -9,14 +11,14 @@ use lent::Writing;
 use refusal::Refusal;
 
 // What reading at a place finds: the number and the place after it, or why it is refused.
-#[derive(Drop)]
+#[derive(Clone, Copy)]
 pub enum Reading {
     Number { value: u32, next: usize },
     Refused { refusal: Refusal },
 }
 
 // A number's bytes, at the start of an array that has room for the longest.
-#[derive(Drop)]
+#[derive(Clone, Copy)]
 struct Groups {
     bytes: [u8; 5],
     count: usize,
@@ -24,6 +26,7 @@ struct Groups {
 
 // The number that stands in s at a place. Refused: CutShort where s ends before the number does (or
 // before the place), TooLong where the last group is a needless zero or the fifth byte is above 15.
+#[tactic(auto, using(crate::proofs::GroupByGroup::reading))]
 pub fn read(s: &[u8], from: usize) -> Reading
     ensures { result ≡ number_at s.now from }
 {
@@ -43,6 +46,7 @@ pub fn read(s: &[u8], from: usize) -> Reading
 }
 
 // The value of the groups from a place on that stand behind another; `left` more may follow the next.
+#[tactic(auto, using(crate::proofs::GroupByGroup::reading))]
 fn read_following(s: &[u8], at: usize, left: u32) -> Reading
     requires { left ≤ 3 }
     ensures { result ≡ following left at (drop at s.now) }
@@ -68,6 +72,7 @@ fn read_following(s: &[u8], at: usize, left: u32) -> Reading
 }
 
 // The last group, behind another one: zero there would be a second way to write the number.
+#[tactic(auto, unfolding(crate::specs::Read::last_group))]
 fn last(group: u8, at: usize) -> Reading
     requires { at + 1 < 2 ^ 64 }
     ensures { result ≡ last_group at group }
@@ -84,6 +89,7 @@ fn last(group: u8, at: usize) -> Reading
 }
 
 // A group that others follow, in front of what those were read as.
+#[tactic(auto, unfolding(crate::specs::Read::before))]
 fn behind(group: u8, rest: Reading) -> Reading
     requires le_group { 128 ≤ group }
     requires rest_bound { value_of rest < 2 ^ 25 }

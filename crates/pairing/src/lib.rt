@@ -1,4 +1,6 @@
 // The result of one pending call: listing 6 for a batch with an enqueue, listing 8 for one of dequeues only.
+#![tactic(auto)]
+
 ghost use Rattle.std.specs.Prelude.{◌≡◌};
 ghost use Rattle.pairing.specs.Pairing.{node_behind, same_link, next_of, pay, pay_batch, pay_dequeues};
 
@@ -7,21 +9,21 @@ use cells::Link;
 
 // What the listings keep beside the current head: listing 6 the node of the next enqueue and whether no
 // dequeue can succeed any more, listing 8 how many are still to succeed.
-#[derive(Drop)]
+#[derive(Clone, Copy)]
 pub enum Supply {
     Batch { next: Link, none_left: bool },
     Dequeues { left: u32 },
 }
 
 // The current head, and what stands beside it.
-#[derive(Drop)]
+#[derive(Clone, Copy)]
 pub struct Cursor {
     pub at: u16,
     pub supply: Supply,
 }
 
 // The result of one call, and the cursor behind it.
-#[derive(Drop)]
+#[derive(Clone, Copy)]
 pub struct Paid {
     pub outcome: Outcome,
     pub cursor: Cursor,
@@ -29,7 +31,7 @@ pub struct Paid {
 
 // What one turn of the pairing reads: the link behind the current head, the node that it leads to with its
 // item, the link behind the next enqueue's node, and the batch's last node.
-#[derive(Drop)]
+#[derive(Clone, Copy)]
 pub struct Around {
     pub behind: Link,
     pub node: u16,

@@ -1,5 +1,7 @@
 // A thread's place in its call (01, "Steps"): idle, or the step that comes next in one of the four kinds of
 // call or in running an announcement, with what is remembered of the accesses before.
+#![tactic(auto)]
+
 ghost use Rattle.std.specs.Prelude.{◌≡◌, ◌<◌};
 ghost use Rattle.place.specs.Place.{idle, announcement_run, place_after, goes_on};
 
@@ -7,7 +9,7 @@ use cells::{Announcement, Front, Tail};
 
 // The step that comes next. An Enqueue holds its node, a batch with an enqueue its own announcement, and
 // a thread that runs an announcement the call that it goes back to.
-#[derive(Drop)]
+#[derive(Clone, Copy)]
 pub enum Place {
     Idle,
     Enqueue(u16, EnqueueStep),
@@ -19,7 +21,7 @@ pub enum Place {
 
 // Enqueue, listing 1. From e2 on a step holds the tail that e1 read, from e4 on the node that e2 found
 // behind it.
-#[derive(Drop)]
+#[derive(Clone, Copy)]
 pub enum EnqueueStep {
     E1,
     E2(Tail),
@@ -30,7 +32,7 @@ pub enum EnqueueStep {
 
 // Dequeue, listings 2 and 3. From d2 on a step holds the head that d1 read, d3 the node that d2 read
 // behind it.
-#[derive(Drop)]
+#[derive(Clone, Copy)]
 pub enum DequeueStep {
     D1,
     D2(Front),
@@ -38,14 +40,14 @@ pub enum DequeueStep {
 }
 
 // Batch with an enqueue, listing 4. b2 holds the head that b1 read.
-#[derive(Drop)]
+#[derive(Clone, Copy)]
 pub enum BatchStep {
     B1,
     B2(Front),
 }
 
 // Batch of dequeues only, listing 7.
-#[derive(Drop)]
+#[derive(Clone, Copy)]
 pub enum DequeuesStep {
     Q1,
     Q2(Walk),
@@ -53,7 +55,7 @@ pub enum DequeuesStep {
 }
 
 // The head that q1 read, the node reached from it, and how many nodes were found on the way.
-#[derive(Drop)]
+#[derive(Clone, Copy)]
 pub struct Walk {
     pub front: Front,
     pub at: u16,
@@ -63,7 +65,7 @@ pub struct Walk {
 // Running an announcement, listing 5. a2 to a4 and a8 hold the tail that a1 read, a8 the node that a3 found
 // behind it, a5 the old tail. a6 and a7 hold by how much the dequeue count will rise; a6 the node reached and
 // how many links are left to walk, a7 the node that the head will be set to.
-#[derive(Drop)]
+#[derive(Clone, Copy)]
 pub enum RunStep {
     A1,
     A2(Tail),
@@ -76,7 +78,7 @@ pub enum RunStep {
 }
 
 // The call resumed after a run. `Own`: the announcement was the call's own, and the call ends.
-#[derive(Drop)]
+#[derive(Clone, Copy)]
 pub enum Resume {
     Enqueue(u16),
     Dequeue,
@@ -88,7 +90,7 @@ pub enum Resume {
 // How a call goes on after a step, or how it ends: an enqueue; a dequeue that found nothing, or the item
 // of a node; a batch, paired by listing 6 from the old head, or one of dequeues only, paired by listing 8
 // with the nodes that it took.
-#[derive(Drop)]
+#[derive(Clone, Copy)]
 pub enum After {
     On(Place),
     Ok,

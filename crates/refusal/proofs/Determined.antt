@@ -4,5 +4,5 @@ use Rattle.contracts.specs.Determined.{Determines}
 use Rattle.contracts.proofs.Told.{nothing_required, together, answer}
 use Rattle.refusal.specs.contracts.Refusal.number
 
-pub number_determined : {M : Type 1} → Determines M number.ended number.clauses
+pub number_determined : {M : Type 1} → Determines M number.ended (λ 𝓤. number.clauses {𝓤 = 𝓤})
 number_determined = record { for_all_inputs = nothing_required; one_outcome = λ i x y. together i (answer refl) }

@@ -1,9 +1,11 @@
 // The refusals of document 01, "Refusal numbers". An entry, a reader or a writer that refuses names
 // one of these; the number that a listing shows for it is decided here and nowhere else.
+#![tactic(auto)]
+
 ghost use Rattle.std.specs.Prelude.{◌≡◌};
 ghost use Rattle.refusal.specs.Numbers.{number_of};
 
-#[derive(Drop)]
+#[derive(Clone, Copy)]
 pub enum Refusal {
     // The thread is not below the thread count.
     NoSuchThread,

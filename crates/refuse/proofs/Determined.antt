@@ -4,5 +4,5 @@ use Rattle.contracts.specs.Determined.{Determines}
 use Rattle.contracts.proofs.Told.{nothing_required, together, answer}
 use Rattle.refuse.specs.contracts.verdict
 
-pub verdict_determined : {M : Type 1} → Determines M verdict.ended verdict.clauses
+pub verdict_determined : {M : Type 1} → Determines M verdict.ended (λ 𝓤. verdict.clauses {𝓤 = 𝓤})
 verdict_determined = record { for_all_inputs = nothing_required; one_outcome = λ i x y. together i (answer refl) }

@@ -1,4 +1,6 @@
 // The tests of 01's refusal table, 1 to 8, in its order. Nothing has changed when one is given.
+#![tactic(auto)]
+
 ghost use Rattle.std.specs.Prelude.{◌≡◌};
 ghost use Rattle.refuse.specs.Refusals.{first, callable, steppable, foreign, own_verdict, tested, verdict};
 
@@ -103,6 +105,7 @@ fn tested(
 
 // Whether an entry is refused, on a machine of some threads and nodes: `row` is its thread's, `asked` the
 // future that it names.
+#[tactic(auto, unfolding(crate::specs::Refusals::verdict))]
 pub fn verdict(
     entry: Entry,
     threads: u32,

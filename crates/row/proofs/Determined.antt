@@ -10,23 +10,23 @@ use Rattle.row.specs.contracts.Row.with_dequeue as with-dequeue
 use Rattle.row.specs.contracts.Row.cleared
 use Rattle.row.specs.contracts.Row.request
 
-pub fresh_determined : {M : Type 1} → Determines M fresh.ended fresh.clauses
+pub fresh_determined : {M : Type 1} → Determines M fresh.ended (λ 𝓤. fresh.clauses {𝓤 = 𝓤})
 fresh_determined = record { for_all_inputs = nothing_required; one_outcome = λ i x y. together i (answer refl) }
 
-pub at_determined : {M : Type 1} → Determines M at.ended at.clauses
+pub at_determined : {M : Type 1} → Determines M at.ended (λ 𝓤. at.clauses {𝓤 = 𝓤})
 at_determined = record { for_all_inputs = nothing_required; one_outcome = λ i x y. together i (answer refl) }
 
-pub calling_determined : {M : Type 1} → Determines M calling.ended calling.clauses
+pub calling_determined : {M : Type 1} → Determines M calling.ended (λ 𝓤. calling.clauses {𝓤 = 𝓤})
 calling_determined = record { for_all_inputs = nothing_required; one_outcome = λ i x y. together i (answer refl) }
 
-pub with_enqueue_determined : {M : Type 1} → Determines M with-enqueue.ended with-enqueue.clauses
+pub with_enqueue_determined : {M : Type 1} → Determines M with-enqueue.ended (λ 𝓤. with-enqueue.clauses {𝓤 = 𝓤})
 with_enqueue_determined = record { for_all_inputs = nothing_required; one_outcome = λ i x y. together i (answer refl) }
 
-pub with_dequeue_determined : {M : Type 1} → Determines M with-dequeue.ended with-dequeue.clauses
+pub with_dequeue_determined : {M : Type 1} → Determines M with-dequeue.ended (λ 𝓤. with-dequeue.clauses {𝓤 = 𝓤})
 with_dequeue_determined = record { for_all_inputs = nothing_required; one_outcome = λ i x y. together i (answer refl) }
 
-pub cleared_determined : {M : Type 1} → Determines M cleared.ended cleared.clauses
+pub cleared_determined : {M : Type 1} → Determines M cleared.ended (λ 𝓤. cleared.clauses {𝓤 = 𝓤})
 cleared_determined = record { for_all_inputs = nothing_required; one_outcome = λ i x y. together i (answer refl) }
 
-pub request_determined : {M : Type 1} → Determines M request.ended request.clauses
+pub request_determined : {M : Type 1} → Determines M request.ended (λ 𝓤. request.clauses {𝓤 = 𝓤})
 request_determined = record { for_all_inputs = nothing_required; one_outcome = λ i x y. together i (answer refl) }

@@ -1,4 +1,6 @@
 // One thread's row: its place, its pending calls and their tally, and the batch's nodes.
+#![tactic(auto)]
+
 ghost use Rattle.std.specs.Prelude.{◌≡◌};
 ghost use Rattle.row.specs.Row.{fresh_row, placed, calling, first_with, with_enqueue, with_dequeue, cleared, request};
 
@@ -9,7 +11,7 @@ use tally::Tally;
 // Pending calls are held by their futures, in calling order; `count` of them. `first` and `last` are the
 // nodes of the first and the last pending enqueue, where there is one. `future` is the future whose result
 // ends the batch's call: the one named in Evaluate, or the single call's own.
-#[derive(Drop)]
+#[derive(Clone, Copy)]
 pub struct Row {
     pub place: Place,
     pub pending: [u16; 32],

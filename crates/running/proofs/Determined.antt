@@ -6,11 +6,11 @@ use Rattle.running.specs.contracts.access
 use Rattle.running.specs.contracts.after
 use Rattle.running.specs.contracts.walk_to as walk-to
 
-pub access_determined : {M : Type 1} → Determines M access.ended access.clauses
+pub access_determined : {M : Type 1} → Determines M access.ended (λ 𝓤. access.clauses {𝓤 = 𝓤})
 access_determined = record { for_all_inputs = nothing_required; one_outcome = λ i x y. together i (answer refl) }
 
-pub after_determined : {M : Type 1} → Determines M after.ended after.clauses
+pub after_determined : {M : Type 1} → Determines M after.ended (λ 𝓤. after.clauses {𝓤 = 𝓤})
 after_determined = record { for_all_inputs = nothing_required; one_outcome = λ i x y. together i (answer refl) }
 
-pub walk_to_determined : {M : Type 1} → Determines M walk-to.ended walk-to.clauses
+pub walk_to_determined : {M : Type 1} → Determines M walk-to.ended (λ 𝓤. walk-to.clauses {𝓤 = 𝓤})
 walk_to_determined = record { for_all_inputs = nothing_required; one_outcome = λ i x y. together i (answer refl) }

@@ -1,4 +1,6 @@
 // 01, "Steps", Running an announcement; listing 5. The announcement is `a`, its request `request`.
+#![tactic(auto)]
+
 ghost use Rattle.std.specs.Prelude.{◌≡◌};
 ghost use Rattle.running.specs.Running.{run_access, run_after, after_a2, after_a3, after_a6, size_at, walk_to, walk_by, back};
 
@@ -8,6 +10,7 @@ use found::Found;
 use place::{After, BatchStep, DequeueStep, DequeuesStep, EnqueueStep, Place, Resume, RunStep};
 use tally::less;
 
+#[tactic(auto, unfolding(crate::specs::Running::run_access))]
 pub fn access(step: RunStep, a: u8, request: Request) -> Access
     ensures { result ≡ run_access a request step }
 {
@@ -41,6 +44,7 @@ pub fn access(step: RunStep, a: u8, request: Request) -> Access
     }
 }
 
+#[tactic(auto, unfolding(crate::specs::Running::run_after))]
 pub fn after(step: RunStep, a: u8, found: Found, request: Request, resume: Resume) -> After
     ensures { result ≡ run_after a request resume step found }
 {

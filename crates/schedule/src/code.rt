@@ -5,6 +5,7 @@ ghost use Rattle.schedule.specs.Codes.{operands, entry_of};
 use entry::Entry;
 
 // How many operands a code has; none where it is no entry's.
+#[tactic(auto, unfolding(crate::specs::Codes::operands))]
 pub(crate) fn operands(code: u32) -> u32
     ensures { result ≡ operands code }
 {
@@ -16,6 +17,7 @@ pub(crate) fn operands(code: u32) -> u32
 }
 
 // The entry of a code from 1 to 7. `second` counts where the code has a second operand.
+#[tactic(auto, unfolding(crate::specs::Codes::entry_of))]
 pub(crate) fn entry_of(code: u32, thread: u32, second: u32) -> Entry
     ensures { result ≡ entry_of code thread second }
 {

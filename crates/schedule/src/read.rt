@@ -9,7 +9,7 @@ use numbers::Reading;
 use refusal::Refusal;
 
 // A schedule's set-up and the place behind it, or why it is refused.
-#[derive(Drop)]
+#[derive(Clone, Copy)]
 pub enum SetUpReading {
     SetUp {
         threads: u32,
@@ -23,7 +23,7 @@ pub enum SetUpReading {
 
 // What stands at a place: an entry and the count of bytes that it took, the schedule's end, or why it is
 // refused.
-#[derive(Drop)]
+#[derive(Clone, Copy)]
 pub enum EntryReading {
     End,
     Entry { entry: Entry, count: usize },
@@ -41,6 +41,7 @@ fn why(reading: Reading) -> Refusal
 }
 
 // The set-up at the start of s. Refused: 10, 11 as its numbers are; 9 where both have read well.
+#[tactic(auto, unfolding(crate::specs::Read::set_up_of))]
 pub fn set_up(s: &[u8]) -> SetUpReading
     ensures { result ≡ set_up_of s.now }
 {
@@ -79,6 +80,7 @@ fn tested(threads: u32, nodes: u32, next: usize) -> SetUpReading
 
 // The entry at a place of s. End where no byte is left there; refused: 12 as soon as the code is read,
 // 10, 11 as its numbers are.
+#[tactic(auto, unfolding(crate::specs::Read::entry_at))]
 pub fn entry(s: &[u8], from: usize) -> EntryReading
     ensures { result ≡ entry_at s.now from }
 {
@@ -100,6 +102,7 @@ pub fn entry(s: &[u8], from: usize) -> EntryReading
 }
 
 // An entry that began at `from`, from its first operand on, which is the thread.
+#[tactic(auto, unfolding(crate::specs::Read::thread_at))]
 fn thread(s: &[u8], from: usize, code: u32, at: usize) -> EntryReading
     requires { from ≤ at }
     ensures { result ≡ thread_at s.now from code at }
@@ -124,6 +127,7 @@ fn thread(s: &[u8], from: usize, code: u32, at: usize) -> EntryReading
 }
 
 // The same from its second operand on.
+#[tactic(auto, unfolding(crate::specs::Read::second_at))]
 fn second(s: &[u8], from: usize, code: u32, thread: u32, at: usize) -> EntryReading
     requires { from ≤ at }
     ensures { result ≡ second_at s.now from code thread at }

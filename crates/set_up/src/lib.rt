@@ -1,4 +1,6 @@
 // Set-up (01, "What the machine is"): a fresh machine of the numbers asked for, or refusal 9.
+#![tactic(auto)]
+
 ghost use Rattle.std.specs.Prelude.{◌≡◌};
 ghost use Rattle.machine.specs.State.{ends_at_the_dummy, fresh_machine};
 ghost use Rattle.memory.specs.Memory.{no_announcement};
@@ -14,7 +16,7 @@ use row::Row;
 use tally::Tally;
 
 // The machine counts only where the set-up is accepted.
-#[derive(Drop)]
+#[derive(Clone, Copy)]
 pub struct SetUp {
     pub verdict: Verdict,
     pub machine: Machine,

@@ -1,10 +1,12 @@
 // The tally of a thread's pending calls: three counters from which anybody who runs the batch can
 // tell at once how many of its dequeues succeed (document 002, section 5.2). Each is 32 bits wide
 // and wraps; a thread has at most 32 pending calls, so no counter that a machine keeps comes there.
+#![tactic(auto)]
+
 ghost use Rattle.std.specs.Prelude.{◌≡◌, ◌-◌, max};
 ghost use Rattle.tally.specs.Tally.{nothing_pending, with_enqueue, with_dequeue, successful_on};
 
-#[derive(Drop)]
+#[derive(Clone, Copy)]
 pub struct Tally {
     pub enqueues: u32,
     pub dequeues: u32,

@@ -5,8 +5,8 @@ use Rattle.contracts.proofs.Told.{nothing_required, together, answer}
 use Rattle.thread.specs.contracts.access
 use Rattle.thread.specs.contracts.after
 
-pub access_determined : {M : Type 1} → Determines M access.ended access.clauses
+pub access_determined : {M : Type 1} → Determines M access.ended (λ 𝓤. access.clauses {𝓤 = 𝓤})
 access_determined = record { for_all_inputs = nothing_required; one_outcome = λ i x y. together i (answer refl) }
 
-pub after_determined : {M : Type 1} → Determines M after.ended after.clauses
+pub after_determined : {M : Type 1} → Determines M after.ended (λ 𝓤. after.clauses {𝓤 = 𝓤})
 after_determined = record { for_all_inputs = nothing_required; one_outcome = λ i x y. together i (answer refl) }

@@ -7,6 +7,7 @@ use cells::Head;
 use found::Found;
 use place::{After, BatchStep, Place, Resume, RunStep};
 
+#[tactic(auto, unfolding(crate::specs::Batch::batch_access))]
 pub(crate) fn access(step: BatchStep, own: u8) -> Access
     ensures { result ≡ batch_access own step }
 {
@@ -16,6 +17,7 @@ pub(crate) fn access(step: BatchStep, own: u8) -> Access
     }
 }
 
+#[tactic(auto, unfolding(crate::specs::Batch::batch_after))]
 pub(crate) fn after(step: BatchStep, own: u8, found: Found) -> After
     ensures { result ≡ batch_after own step found }
 {

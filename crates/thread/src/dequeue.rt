@@ -7,6 +7,7 @@ use cells::{Front, Head, Link};
 use found::Found;
 use place::{After, DequeueStep, Place, Resume, RunStep};
 
+#[tactic(auto, unfolding(crate::specs::Dequeue::dequeue_access))]
 pub(crate) fn access(step: DequeueStep) -> Access
     ensures { result ≡ dequeue_access step }
 {
@@ -20,6 +21,7 @@ pub(crate) fn access(step: DequeueStep) -> Access
     }
 }
 
+#[tactic(auto, unfolding(crate::specs::Dequeue::dequeue_after))]
 pub(crate) fn after(step: DequeueStep, found: Found) -> After
     ensures { result ≡ dequeue_after step found }
 {

@@ -7,6 +7,7 @@ use cells::{Head, Link};
 use found::Found;
 use place::{After, DequeuesStep, Place, Resume, RunStep, Walk};
 
+#[tactic(auto, unfolding(crate::specs::Dequeues::dequeues_access))]
 pub(crate) fn access(step: DequeuesStep) -> Access
     ensures { result ≡ dequeues_access step }
 {
@@ -23,6 +24,7 @@ pub(crate) fn access(step: DequeuesStep) -> Access
     }
 }
 
+#[tactic(auto, unfolding(crate::specs::Dequeues::dequeues_after))]
 pub(crate) fn after(step: DequeuesStep, found: Found, pending: u32) -> After
     ensures { result ≡ dequeues_after step found pending }
 {

@@ -7,6 +7,7 @@ use cells::{Head, Link, Tail};
 use found::Found;
 use place::{After, EnqueueStep, Place, Resume, RunStep};
 
+#[tactic(auto, unfolding(crate::specs::Enqueue::enqueue_access))]
 pub(crate) fn access(step: EnqueueStep, node: u16) -> Access
     ensures { result ≡ enqueue_access node step }
 {
@@ -28,6 +29,7 @@ pub(crate) fn access(step: EnqueueStep, node: u16) -> Access
     }
 }
 
+#[tactic(auto, unfolding(crate::specs::Enqueue::enqueue_after))]
 pub(crate) fn after(step: EnqueueStep, node: u16, found: Found) -> After
     ensures { result ≡ enqueue_after node step found }
 {

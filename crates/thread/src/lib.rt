@@ -3,6 +3,8 @@
 //
 // A file for each of 01's four kinds of call, each with `access` and `after`; running an announcement is a
 // crate of its own, `running`.
+#![tactic(auto)]
+
 pub mod batch;
 pub mod dequeue;
 pub mod dequeues;
