@@ -116,5 +116,15 @@ drop_bytes n s bytes i = rw (get_or-drop n s i 0) (bytes (n + i))
 
 -- what the readers' contracts come down to, one law for each kind of group
 pub ruleset reading = (
-    following_cut, number_cut, fifth_too_long, fifth_last, following_last, following_more, number_last, number_more, following_small, number_fits,
-    drop_bytes)
+  following_cut,
+  number_cut,
+  fifth_too_long,
+  fifth_last,
+  following_last,
+  following_more,
+  number_last,
+  number_more,
+  following_small,
+  number_fits,
+  drop_bytes,
+)
