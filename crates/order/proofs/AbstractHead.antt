@@ -87,10 +87,10 @@ module _ (m : Machine) (g : Ghost) (i : Inv (shared_of m) g) where
   position_of_plain f e = ap (position_of m.announcements g) e
 
   pub position_until_linked : (a : ℕ) → m.ends.head ≡ Announced a → NotLinked g a → head_position m g ≡ (request_in m a).old_head.count.0
-  position_until_linked a e n = ap (position_of m.announcements g) e ∙ if_not g i.ends _ a n (linked_or_not g.by a)
+  position_until_linked a e n = ap (position_of m.announcements g) e ∙ if_not g i.ends (request_in m a) a n (linked_or_not g.by a)
 
   pub position_once_linked : (a p : ℕ) → m.ends.head ≡ Announced a → Linked g a p → head_position m g ≡ goal_from (request_in m a) p
-  position_once_linked a p e l = ap (position_of m.announcements g) e ∙ if_linked_lem g i.ends _ a p l (linked_or_not g.by a)
+  position_once_linked a p e l = ap (position_of m.announcements g) e ∙ if_linked_lem g i.ends (request_in m a) a p l (linked_or_not g.by a)
 
   -- the head, or the old head while an announcement is in it, is a node of the chain
   pub head_or_old_head_at : FrontAt g (front_of m.ends.head m.announcements)

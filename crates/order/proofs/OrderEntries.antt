@@ -72,7 +72,7 @@ module _ (m : Machine) (g : Ghost) (s : Story) (holds : Holds m g) (h : Orderly 
   enqueue_deferred v finds =
       quietly m g s holds h futured knows i free _ _ _ row _ (event_keeps m g holds.ok (EnqueueDeferred i v) finds)
       (defer_enqueue_grows m g holds.ok i free.small free.idle (record { value = v }) finds.1 finds.0.place)
-      (keeps_items m (record { value = v }) (omega (arith, holds.ok.sized, finds.1))) refl refl refl refl refl refl refl refl refl (omega arith) (idle_knows _ _ _ row refl)
+      (keeps_items m (record { value = v }) (omega (arith, holds.ok.sized, finds.1))) refl refl refl refl refl refl refl refl refl (omega arith) (idle_knows (does m (EnqueueDeferred i v)) (ghost_does m g (EnqueueDeferred i v)) _ row refl)
     where
       row : Row
       row = with_enqueue (row_at m i) (next_future m.used) (next_node m.used)
@@ -81,7 +81,7 @@ module _ (m : Machine) (g : Ghost) (s : Story) (holds : Holds m g) (h : Orderly 
   unfolding defer_dequeue
   dequeue_deferred finds =
       quietly m g s holds h futured knows i free _ _ _ row _ (event_keeps m g holds.ok (DequeueDeferred i) finds) (deferred_grows (shared_of m) g i _)
-      (λ n lt. refl) refl refl refl refl refl refl refl refl refl (omega arith) (idle_knows _ _ _ row refl)
+      (λ n lt. refl) refl refl refl refl refl refl refl refl refl (omega arith) (idle_knows (does m (DequeueDeferred i)) (ghost_does m g (DequeueDeferred i)) _ row refl)
     where
       row : Row
       row = with_dequeue (row_at m i) (next_future m.used)
