@@ -1,5 +1,5 @@
 -- 01, "Entries": each entry takes the machine and hands back the machine and one answer.
-use Rattle.std.specs.Prelude.{ℕ, ◌%◌, true, false, cond, set, ◌==◌, slice_set}
+use Rattle.std.specs.Prelude.{ℕ, ◌%◌, true, false, cond, ◌==◌, slice_set}
 use Rattle.refusal.specs.declared.Refusal.{Refusal}
 use Rattle.refusal.specs.declared.Refusal.TheVariants.{NotOwnFuture}
 use Rattle.cells.specs.declared.Link.TheVariants.{To}

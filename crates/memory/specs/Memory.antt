@@ -10,7 +10,6 @@ use Rattle.cells.specs.declared.Ends.{Ends}
 use Rattle.cells.specs.declared.Link.{Link}
 use Rattle.cells.specs.declared.Link.TheVariants.{None, To}
 use Rattle.cells.specs.declared.Cell.{Cell}
-use Rattle.cells.specs.declared.OldTail.{OldTail}
 use Rattle.cells.specs.declared.OldTail.TheVariants.{Unset, Set}
 use Rattle.cells.specs.declared.Announcement.{Announcement}
 use Rattle.access.specs.declared.Access.{Access}

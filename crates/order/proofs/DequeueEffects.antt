@@ -7,7 +7,7 @@ use mathlib.Core.Option.{none}
 use mathlib.Core.Logic.{inl}
 use native.Mathlib.Omega.{arith}
 use lib.ListN.{drop, drop_of_length-le, length-map}
-use Rattle.chain.specs.Positions.{at, At, In}
+use Rattle.chain.specs.Positions.{At, In}
 use Rattle.chain.proofs.Positions.{drop_from, at_map}
 use Rattle.chain.proofs.Following.{none_is_the_last}
 use Rattle.tally.specs.Fifo.{Call, dequeue, Result, item, empty, result, results, successful}

@@ -5,7 +5,6 @@ use Prim.Native.Nat.{ℕ, suc, ◌+◌, ◌-◌, ◌<◌, ◌≤◌}
 use mathlib.Core.Path.{◌≡◌, refl, sym, ap, ◌∙◌, subst}
 use mathlib.Core.Bool.{Bool, true, false, cond}
 use mathlib.Core.List.{List, [], ◌∷◌, ◌++◌, append-nil}
-use mathlib.Core.Option.{none}
 use mathlib.Core.Logic.{◌⊎◌, inl, inr, ⊎_elim, ◌≢◌}
 use native.Mathlib.Omega.{arith}
 use lib.Dec.{eqb, ltb}
@@ -34,7 +33,7 @@ use Rattle.thread.specs.Dequeues.{dequeues_access, dequeues_after, dequeues_at, 
 use Rattle.row.specs.declared.Row.{Row}
 use Rattle.machine.specs.declared.Machine.{Machine}
 use Rattle.machine.specs.State.{memory_of, with_memory}
-use Rattle.order.specs.Links.{led, next, if_none}
+use Rattle.order.specs.Links.{led, if_none}
 use Rattle.order.specs.Order.{Called, Effect, Story, Remembered, of, put_in, put_in_at, read_at, dequeues_order, stepped_on}
 use Rattle.order.specs.PlainQueue.{ran, leaves}
 use Rattle.order.proofs.Ghost.{Ghost}

@@ -1,5 +1,5 @@
 -- One thread's row. 01, "Entries": a deferred call takes a pending place and is kept up in the tally; the step that ends a batch clears both.
-use Rattle.std.specs.Prelude.{ℕ, ◌%◌, cond, [], set, replicate, ◌==◌, slice_set}
+use Rattle.std.specs.Prelude.{ℕ, ◌%◌, cond, [], replicate, ◌==◌, slice_set}
 use Rattle.tally.specs.Tally.{nothing_pending, up}
 use Rattle.tally.specs.Tally as tally
 use Rattle.cells.specs.declared.Request.{Request}

@@ -1,7 +1,6 @@
 -- `contents::length_after` meets its contract: the nodes counted and those still behind are all.
-use Rattle.std.proofs.Common.{rules, ◌≡◌, ◌≤◌, length, ℕ, ◌+◌, ◌-◌, ◌*◌, ◌<◌, ◌/◌, ◌%◌, Bool, true, false, nat_eq, nat_lt, List, [], ◌∷◌, ◌++◌, slice_index_or, slice_set, bit_and, bit_or, Fits, w8, w32, w64, Bor, MutBor}
-use Rattle.contents.specs.Contents.{abstract_head, announced_head, head_to_be, walked, contents, chain_after, items_after, leads_to, front_of, depth}
-use Rattle.lent.specs.Lent.{writing, written}
+use Rattle.std.proofs.Common.{◌≡◌, length, ℕ, ◌+◌, ◌-◌}
+use Rattle.contents.specs.Contents.{chain_after}
 use Prim.Native.Nat.{suc}
 use mathlib.Core.Path.{ap, ◌∙◌}
 use native.Mathlib.Omega.{arith}

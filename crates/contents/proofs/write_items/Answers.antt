@@ -1,16 +1,14 @@
 -- `contents::write_items` meets its contract: the node reached is where as many links lead as items are written, and those stand at the start.
-use Rattle.std.proofs.Common.{rules, ◌≡◌, ◌≤◌, length, ℕ, ◌+◌, ◌-◌, ◌*◌, ◌<◌, ◌/◌, ◌%◌, Bool, true, false, nat_eq, nat_lt, List, [], ◌∷◌, ◌++◌, slice_index_or, slice_set, bit_and, bit_or, Fits, w8, w32, w64, Bor, MutBor}
-use Rattle.contents.specs.Contents.{abstract_head, announced_head, head_to_be, walked, contents, chain_after, items_after, leads_to, front_of, depth}
-use Rattle.lent.specs.Lent.{writing, written}
+use Rattle.std.proofs.Common.{rules, ◌≡◌, ℕ, ◌+◌}
+use Rattle.contents.specs.Contents.{walked}
 use Prim.Native.Nat.{suc}
 use mathlib.Core.Path.{refl, ap, ◌∙◌}
 use native.Mathlib.Omega.{arith}
 use lib.ListN.{length-set}
 use Rattle.memory.specs.Memory.{cell_at}
 use Rattle.pairing.specs.Pairing.{node_behind}
-use lib.Seq.{paste}
 use Rattle.contents.proofs.Chains.{walk_last}
-use Rattle.contents.proofs.Heads.{one_more_item, all_written}
+use Rattle.contents.proofs.Heads.{one_more_item}
 use Rattle.contents.proofs.write_items.Goals as goal
 
 pub loop-i-init : goal.loop-i-init

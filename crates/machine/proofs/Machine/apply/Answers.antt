@@ -1,6 +1,4 @@
 -- `machine::Machine::apply` meets its contract, by the one verdict on the entry.
-use Rattle.std.proofs.Common.{rules, ◌≡◌, ◌%◌, ◌<◌, ℕ, ◌+◌, ◌-◌, ◌*◌, ◌≤◌, length, ◌/◌, Bool, true, false, nat_eq, nat_lt, List, [], ◌∷◌, ◌++◌, slice_index_or, slice_set, bit_and, bit_or, Fits, w8, w32, w64, Bor, MutBor}
-use Rattle.machine.specs.Entries.{refusing, telling, linked_behind, defer_enqueue, defer_dequeue, announced, set_off, start_enqueue, start_dequeue, apply, asked, accepted}
 use Rattle.machine.proofs.Decided.{by_verdict}
 use Rattle.machine.specs.Entries.{decided}
 use Rattle.machine.proofs.Machine.apply.Goals as goal

@@ -1,10 +1,8 @@
 -- `machine::Machine::hops` meets its contract. The loop's invariant: the steps that are still to come, with those taken, are all.
 -- A turn is one hop (`hop_law`), from the parts that the code takes one after the other.
-use Rattle.std.proofs.Common.{◌≡◌, ◌<◌, ℕ, ◌+◌, ◌-◌, ◌*◌, ◌≤◌, length}
-use Rattle.machine.specs.Steps.{hops, tell, advance}
-use Rattle.std.proofs.Common.{sym, ◌∙◌, arith, rules}
-use Rattle.machine.proofs.Hops.{hop_law}
-use Rattle.machine.proofs.Runs.{plus, plus_none, stops, ends}
+use Rattle.std.proofs.Common.{◌≡◌, ◌-◌, ◌≤◌}
+use Rattle.machine.specs.Steps.{hops}
+use Rattle.machine.proofs.Runs.{plus}
 use Rattle.machine.proofs.Machine.hops.Given as goal
 
 abbrev pub invariant-loop-left : goal.invariant-loop-left

@@ -1,11 +1,10 @@
 -- `machine::Machine::pair` meets its contract. The loop's invariant: only the futures have changed, and pairing what is left from here on gives
 -- what pairing all of them gives from the start.
-use Rattle.std.proofs.Common.{rules, ◌≡◌, ◌<◌, ℕ, ◌+◌, ◌-◌, ◌*◌, ◌≤◌, length, ◌/◌, ◌%◌, Bool, true, false, nat_eq, nat_lt, List, [], ◌∷◌, ◌++◌, slice_index_or, slice_set, bit_and, bit_or, Fits, w8, w32, w64, Bor, MutBor}
-use Rattle.machine.specs.Pairing.{pairing_of, settled}
-use Rattle.std.proofs.Common.{refl, ap, arith}
+use Rattle.std.proofs.Common.{◌%◌}
+use Rattle.std.proofs.Common.{ap, arith}
 use Rattle.machine.specs.declared.Machine.{Machine}
 use Rattle.machine.specs.State.{with_futures}
-use Rattle.machine.specs.Pairing.{with_outcome, pair_from}
+use Rattle.machine.specs.Pairing.{with_outcome}
 use Rattle.machine.proofs.Pairs.{pair_turn, paired}
 use Rattle.machine.proofs.Machine.pair.Goals as goal
 

@@ -1,12 +1,8 @@
 -- `machine::Machine::pair` meets its contract. The loop's invariant: only the futures have changed, and pairing what is left from here on gives
 -- what pairing all of them gives from the start.
-use Rattle.std.proofs.Common.{◌-◌, ◌≡◌, ◌<◌, ℕ, ◌+◌, ◌*◌, ◌≤◌, length}
-use Rattle.machine.specs.Pairing.{pairing_of, settled}
-use Rattle.std.proofs.Common.{◌%◌, refl, ap, arith, rules}
-use Rattle.machine.specs.declared.Machine.{Machine}
+use Rattle.std.proofs.Common.{◌-◌, ◌≡◌, ◌≤◌}
 use Rattle.machine.specs.State.{with_futures}
-use Rattle.machine.specs.Pairing.{with_outcome, pair_from}
-use Rattle.machine.proofs.Pairs.{pair_turn, paired}
+use Rattle.machine.specs.Pairing.{pair_from}
 use Rattle.machine.proofs.Machine.pair.Given as goal
 
 abbrev pub invariant-loop-k : goal.invariant-loop-k

@@ -1,6 +1,5 @@
 -- `machine::Machine::settle` meets its contract, one value after the other.
-use Rattle.std.proofs.Common.{rules, ◌≡◌, ◌<◌, ℕ, ◌+◌, ◌-◌, ◌*◌, ◌≤◌, length, ◌/◌, ◌%◌, Bool, true, false, nat_eq, nat_lt, List, [], ◌∷◌, ◌++◌, slice_index_or, slice_set, bit_and, bit_or, Fits, w8, w32, w64, Bor, MutBor}
-use Rattle.machine.specs.Pairing.{pairing_of, settled}
+use Rattle.machine.specs.Pairing.{settled}
 use Rattle.machine.proofs.Pairs.{pairing_law}
 use Rattle.machine.proofs.Machine.settle.Goals as goal
 

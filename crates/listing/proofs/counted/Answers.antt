@@ -1,0 +1,13 @@
+-- `listing::counted` meets its contract.
+use Rattle.std.proofs.Common.{rules, ◌≡◌, ◌+◌, ◌/◌, ◌^◌, ◌<◌, ◌≤◌, length, take, ℕ, ◌-◌, ◌*◌, ◌%◌, Bool, true, false, nat_eq, nat_lt, List, [], ◌∷◌, ◌++◌, slice_index_or, slice_set, bit_and, bit_or, Fits, w8, w32, w64, Bor, MutBor}
+use Rattle.lent.specs.Lent.{written, written_at}
+use Rattle.listing.specs.Listing.{counted}
+use Rattle.listing.specs.Pieces.{opened, opened_at, stopped, ended, refused_at, after_entry, entered, next_line, lines, next, told}
+use Rattle.std.proofs.Common.{sym, arith, length-take-le, take_all}
+use Rattle.listing.proofs.counted.Goals as goal
+
+pub returns-then-s-le-BYTES : goal.returns-then-s-le-BYTES
+returns-then-s-le-BYTES c = sym (take_all 65536 c.args.s.now c.if-s-le-BYTES.true)
+
+pub slice_bounds-result-end : goal.slice_bounds-result-end
+slice_bounds-result-end c = sym (length-take-le 65536 c.args.s.now (omega (arith, c.if-s-le-BYTES.false)))
