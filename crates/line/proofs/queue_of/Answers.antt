@@ -1,9 +1,7 @@
 -- `line::queue_of` meets its contract: the line finds room in an array of its own, and is put where there is room for it.
-use Rattle.std.proofs.Common.{rules, ◌≡◌, ◌≤◌, length, take, ℕ, ◌+◌, ◌-◌, ◌*◌, ◌<◌, ◌/◌, ◌%◌, Bool, true, false, nat_eq, nat_lt, List, [], ◌∷◌, ◌++◌, slice_index_or, slice_set, bit_and, bit_or, Fits, w8, w32, w64, Bor, MutBor}
+use Rattle.std.proofs.Common.{◌≡◌, ◌≤◌, length, take, ℕ, List}
 use Rattle.lent.specs.Lent.{writing, written}
-use Rattle.contents.specs.Contents.{contents}
-use Rattle.line.specs.Text.{set_up_text, refused_text, first_text, entry_text, queue_text}
-use Rattle.line.specs.Line.{line_of}
+use Rattle.line.specs.Text.{queue_text}
 use mathlib.Core.Path.{sym, ap, ◌∙◌}
 use native.Mathlib.Omega.{arith}
 use lib.ListN.{replicate}

@@ -1,8 +1,4 @@
 -- `listing::counted` meets its contract.
-use Rattle.std.proofs.Common.{rules, ◌≡◌, ◌+◌, ◌/◌, ◌^◌, ◌<◌, ◌≤◌, length, take, ℕ, ◌-◌, ◌*◌, ◌%◌, Bool, true, false, nat_eq, nat_lt, List, [], ◌∷◌, ◌++◌, slice_index_or, slice_set, bit_and, bit_or, Fits, w8, w32, w64, Bor, MutBor}
-use Rattle.lent.specs.Lent.{written, written_at}
-use Rattle.listing.specs.Listing.{counted}
-use Rattle.listing.specs.Pieces.{opened, opened_at, stopped, ended, refused_at, after_entry, entered, next_line, lines, next, told}
 use Rattle.std.proofs.Common.{sym, arith, length-take-le, take_all}
 use Rattle.listing.proofs.counted.Goals as goal
 

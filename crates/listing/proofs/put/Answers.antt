@@ -1,9 +1,6 @@
 -- `listing::put` meets its contract: the line's text is put at the start of the part that begins at the place.
-use Rattle.std.proofs.Common.{rules, ◌≡◌, ◌+◌, ◌/◌, ◌^◌, ◌<◌, ◌≤◌, length, take, ℕ, ◌-◌, ◌*◌, ◌%◌, Bool, true, false, nat_eq, nat_lt, List, [], ◌∷◌, ◌++◌, slice_index_or, slice_set, bit_and, bit_or, Fits, w8, w32, w64, Bor, MutBor}
-use Rattle.lent.specs.Lent.{written, written_at}
-use Rattle.listing.specs.Listing.{counted}
-use Rattle.listing.specs.Pieces.{opened, opened_at, stopped, ended, refused_at, after_entry, entered, next_line, lines, next, told}
-use Rattle.std.proofs.Common.{drop, sym, ap, ◌∙◌, arith, length-take-le}
+use Rattle.std.proofs.Common.{length, take, ℕ, ◌-◌, List, ◌++◌}
+use Rattle.std.proofs.Common.{drop, ap, ◌∙◌, arith, length-take-le}
 use Rattle.lent.proofs.Laws.{written_in_part}
 use Rattle.listing.proofs.put.Goals as goal
 

@@ -1,13 +1,12 @@
 -- `line::put::fields` meets its contract: item by item.
-use Rattle.std.proofs.Common.{rules, ◌≡◌, ◌+◌, ◌*◌, ◌≤◌, length, take, ℕ, ◌-◌, ◌<◌, ◌/◌, ◌%◌, Bool, true, false, nat_eq, nat_lt, List, [], ◌∷◌, ◌++◌, slice_index_or, slice_set, bit_and, bit_or, Fits, w8, w32, w64, Bor, MutBor}
-use Rattle.lent.specs.Lent.{written_at}
-use Rattle.line.specs.Text.{decimal, field, fields, word_field, entry_text, set_up_text, refused_text, queue_text}
+use Rattle.std.proofs.Common.{◌≡◌, ◌+◌, ◌*◌, ◌≤◌, length, take, ℕ, ◌<◌, List}
+use Rattle.line.specs.Text.{fields}
 use mathlib.Core.Path.{sym}
 use native.Mathlib.Omega.{arith}
 use lib.ListN.{get_or}
 use lib.Seq.{length-take-le}
 use Rattle.lent.proofs.Laws.{nothing_written}
-use Rattle.lent.proofs.Pieces.{Put, put, then, contract, same_length as kept}
+use Rattle.lent.proofs.Pieces.{Put, put, then, same_length as kept}
 use Rattle.line.proofs.Lengths.{fields_few, field_few}
 use Rattle.line.proofs.Items.{one_field_more}
 use Rattle.line.proofs.put.fields.Goals as goal

@@ -1,7 +1,6 @@
 -- `line::put::number` meets its contract: the kit's digits, put at the place.
-use Rattle.std.proofs.Common.{rules, ◌≡◌, ◌+◌, ◌*◌, ◌≤◌, length, take, ℕ, ◌-◌, ◌<◌, ◌/◌, ◌%◌, Bool, true, false, nat_eq, nat_lt, List, [], ◌∷◌, ◌++◌, slice_index_or, slice_set, bit_and, bit_or, Fits, w8, w32, w64, Bor, MutBor}
+use Rattle.std.proofs.Common.{rules, ◌+◌, length, ℕ, List}
 use Rattle.lent.specs.Lent.{written_at}
-use Rattle.line.specs.Text.{decimal, field, fields, word_field, entry_text, set_up_text, refused_text, queue_text}
 use mathlib.Core.Path.{ap, ◌∙◌}
 use native.Mathlib.Omega.{arith}
 use Rattle.line.proofs.Decimals.{digits_are_decimal}

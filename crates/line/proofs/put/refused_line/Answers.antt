@@ -1,7 +1,6 @@
 -- `line::put::refused_line` meets its contract: its parts, one behind the other.
-use Rattle.std.proofs.Common.{rules, ◌≡◌, ◌+◌, ◌*◌, ◌≤◌, length, take, ℕ, ◌-◌, ◌<◌, ◌/◌, ◌%◌, Bool, true, false, nat_eq, nat_lt, List, [], ◌∷◌, ◌++◌, slice_index_or, slice_set, bit_and, bit_or, Fits, w8, w32, w64, Bor, MutBor}
-use Rattle.lent.specs.Lent.{written_at}
-use Rattle.line.specs.Text.{decimal, field, fields, word_field, entry_text, set_up_text, refused_text, queue_text}
+use Rattle.std.proofs.Common.{ℕ, List, [], ◌∷◌}
+use Rattle.line.specs.Text.{field, refused_text}
 use native.Mathlib.Omega.{arith}
 use Rattle.refusal.specs.Numbers.{number_of}
 use Rattle.lent.proofs.Pieces.{put, and, none, all_put}

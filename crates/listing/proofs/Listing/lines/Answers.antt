@@ -1,10 +1,6 @@
 -- `listing::Listing::lines` meets its contract: line by line, as `Blocks` has it.
-use Rattle.std.proofs.Common.{rules, ◌≡◌, ◌+◌, ◌/◌, ◌^◌, ◌<◌, ◌≤◌, length, take, ℕ, ◌-◌, ◌*◌, ◌%◌, Bool, true, false, nat_eq, nat_lt, List, [], ◌∷◌, ◌++◌, slice_index_or, slice_set, bit_and, bit_or, Fits, w8, w32, w64, Bor, MutBor}
-use Rattle.lent.specs.Lent.{written, written_at}
-use Rattle.listing.specs.Listing.{counted}
-use Rattle.listing.specs.Pieces.{opened, opened_at, stopped, ended, refused_at, after_entry, entered, next_line, lines, next, told}
-use Rattle.std.proofs.Common.{refl, arith}
-use Rattle.listing.proofs.Blocks.{Telling, begins, goes_on, stops, ends}
+use Rattle.std.proofs.Common.{arith}
+use Rattle.listing.proofs.Blocks.{goes_on, stops, ends}
 use Rattle.listing.proofs.Telling.{next_line_few, next_counts, next_holds, next_told}
 use Rattle.listing.proofs.Listing.lines.Goals as goal
 

@@ -1,11 +1,6 @@
 -- `listing::Listing::lines` meets its contract: line by line, as `Blocks` has it.
-use Rattle.std.proofs.Common.{◌≡◌, ◌+◌, ◌/◌, ◌^◌, ◌<◌, ◌≤◌, length, take, ℕ, ◌-◌, ◌*◌}
-use Rattle.lent.specs.Lent.{written, written_at}
-use Rattle.listing.specs.Listing.{counted}
-use Rattle.listing.specs.Pieces.{opened, opened_at, stopped, ended, refused_at, after_entry, entered, next_line, lines, next, told}
-use Rattle.std.proofs.Common.{refl, arith, rules}
-use Rattle.listing.proofs.Blocks.{Telling, begins, goes_on, stops, ends}
-use Rattle.listing.proofs.Telling.{next_line_few, next_counts, next_holds, next_told}
+use Rattle.std.proofs.Common.{◌/◌, length}
+use Rattle.listing.proofs.Blocks.{Telling}
 use Rattle.listing.proofs.Listing.lines.Given as goal
 
 abbrev pub invariant-loop-left : goal.invariant-loop-left
