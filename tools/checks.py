@@ -3,9 +3,9 @@
 
     bash .ci/run > /tmp/gate.log 2>&1; tools/checks.py /tmp/gate.log
 
-Times are those that the log gives; the lines are counted in the tree; a must-fail edit's first line
-says what it rules out, and its log under target/must-fail/ has the checker's first words. With
---memory each crate is checked once more, alone, for the peak memory of its check (Linux).
+The lines are counted in the tree; a must-fail edit's first line says what it rules out, and the log has the
+checker's first words. With --memory each crate is checked once more, from nothing and alone, for the peak memory
+of its check (Linux).
 """
 
 import re
@@ -15,6 +15,9 @@ from pathlib import Path
 
 ROOT = Path(__file__).resolve().parent.parent
 CRATES = ROOT / "crates"
+
+# How much of what the checker said a line of the log holds.
+LOGGED = 160
 
 # The empty versions and plausible slips that 01 names, and the edits that try them.
 NAMED = [
@@ -43,58 +46,36 @@ def lines_in(folder, ending):
 
 def peak_mebibytes(name):
     """The largest process of a check of one crate from nothing, its dependencies proved before."""
-    subprocess.run(["rt", "check", name], cwd=ROOT, capture_output=True)
-    (ROOT / "target" / "stamp" / name).unlink(missing_ok=True)
-    script = "import resource,subprocess,sys;" \
-        "subprocess.run(['rt','check',sys.argv[1]],capture_output=True);" \
+    script = "import resource,subprocess;" \
+        "subprocess.run(['rt','verdict'],capture_output=True);" \
         "print(resource.getrusage(resource.RUSAGE_CHILDREN).ru_maxrss//1024)"
-    run = subprocess.run([sys.executable, "-c", script, name], cwd=ROOT, capture_output=True, text=True)
+    run = subprocess.run([sys.executable, "-c", script], cwd=CRATES / name, capture_output=True, text=True)
     return run.stdout.strip()
 
 
-def left_open(text):
-    """Of a function whose contract needed no proof by hand: what the checker now leaves open."""
-    function = re.search(r"^help: write \S+/proofs/(\S+)/Proof\.antt", text, re.M)
-    need = re.search(r"^ +(\S+) c(?: κs)? = \?", text, re.M)
-    if function and need:
-        return f"{function.group(1)}, which was proved by itself: {need.group(1)} is not"
-
-
-def first_words(name, label):
-    log = ROOT / "target" / "must-fail" / name / label / ".log"
-    text = log.read_text()
-    if "`close` was not admitted" in text and (words := left_open(text)):
-        return words
-    for line in text.splitlines():
-        found = re.search(r"(error: .*|it is not proved .*)", line)
-        if found:
-            words = found.group(1).removeprefix("error: ")
-            words = re.sub(r"Rattle·\w+·(specs|proofs)\.(specs|proofs)\.", "", words)
-            return (words[:150] + " ..") if len(words) > 150 else words
-    return "no error found"
+def first_words(said):
+    """What the checker said first of an edit, without the place in the code and the paths of definitions. The log
+    has no more than the first LOGGED signs of it."""
+    words = re.search(r"(?:error: |it is not proved|$).*", said)[0].removeprefix("error: ") or said
+    words = re.sub(r"Rattle\.\w+\.(specs|proofs)\.", "", words).split("; the facts known there")[0]
+    return words + " .." if len(said) == LOGGED and not words.endswith(")") else words
 
 
 def main():
     log = Path(sys.argv[1]).read_text()
     memory = "--memory" in sys.argv
-    times = dict(re.findall(r"^rt: (\w+) proved \((\d+) s\)", log, re.M))
-    edits = re.findall(r"^rt: must-fail (\w+)/(\w+): refused.*?(\d+) s\)", log, re.M)
-    spent = {}
-    for name, _, seconds in edits:
-        spent.setdefault(name, []).append(int(seconds))
+    edits = re.findall(r"^rt: must-fail (\w+)/(\w+)\.edit: refused, as it must be: (.*)$", log, re.M)
 
-    print("| crate | check, s |" + (" peak, MiB |" if memory else "") + " edits | s an edit | src | specs | proofs |")
-    print("|---|---|" + ("---|" if memory else "") + "---|---|---|---|---|")
+    print("| crate |" + (" peak, MiB |" if memory else "") + " edits | src | specs | proofs |")
+    print("|---|" + ("---|" if memory else "") + "---|---|---|---|")
     for name in names():
-        each = spent.get(name, [])
-        row = [f"`{name}`", times.get(name, "?")]
+        row = [f"`{name}`"]
         row += [peak_mebibytes(name)] if memory else []
-        row += [str(len(each)), f"{sum(each) / len(each):.0f}" if each else ""]
-        row += [str(lines_in(CRATES / name / "src", ".rt"))]
+        row += [str(sum(of == name for of, _, _ in edits)), str(lines_in(CRATES / name / "src", ".rt"))]
         row += [str(lines_in(CRATES / name / part, ".antt")) for part in ("specs", "proofs")]
         print("| " + " | ".join(row) + " |")
 
-    words = {f"{name}/{label}": first_words(name, label).replace("|", "\\|").replace("`", "") for name, label, _ in edits}
+    words = {f"{name}/{label}": first_words(said).replace("|", "\\|").replace("`", "") for name, label, said in edits}
 
     print("\n## The empty versions and slips of 01\n")
     print("| 01 | edit | the checker's first words |")

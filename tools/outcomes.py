@@ -42,10 +42,10 @@ def main():
         text = file.read_text()
         named = dict(
             (alias or path.split(".")[-1], path)
-            for path, alias in re.findall(rf"^use Rattle·{crate.name}·proofs\.proofs\.([\w.]+)(?: as ([\w-]+))?$", text, re.M)
+            for path, alias in re.findall(rf"^use Rattle\.{crate.name}\.specs\.contracts\.([\w.]+)(?: as ([\w-]+))?$", text, re.M)
         )
-        for theorem, contract in re.findall(r"^pub ([\w-]+)-determined : .* Determines M [\w-]+\.ended ([\w-]+)\.clauses$", text, re.M):
-            proved.add(f"{crate.name}::{named[contract].replace('.', '::')} {theorem}-determined")
+        for theorem, contract in re.findall(r"^pub (\w+)_determined : .* Determines M [\w-]+\.ended \(λ 𝓤\. ([\w-]+)\.clauses .*$", text, re.M):
+            proved.add(f"{crate.name}::{named[contract].replace('.', '::')} {theorem}_determined")
     rows = re.findall(r"^\| `([\w:]+)` \| .* \| `([\w-]+)` \|$", (ROOT / "docs" / "OUTCOMES.md").read_text(), re.M)
     told = {f"{function} {theorem}" for function, theorem in rows}
     missing = [f"no theorem: {function}" for function in functions - {line.split()[0] for line in proved}]
