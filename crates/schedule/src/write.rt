@@ -63,6 +63,7 @@ pub fn set_up(buf: &mut [u8], threads: u32, nodes: u32) -> Writing
 
 // Writes an entry: its code, its thread, and its second operand where the code has one. Refused: 12, then
 // 13.
+#[tactic(auto, unfolding(crate::specs::Write::entry_bytes))]
 pub fn entry(buf: &mut [u8], code: u32, thread: u32, second: u32) -> Writing
     ensures { (result ≡ entry_writing code thread second buf.old) × (buf.new ≡ entry_written code thread second buf.old) }
 {
