@@ -9,7 +9,7 @@ use native.Mathlib.Decide.{ℕ_discrete}
 use lib.ListN.{length, take, drop, length-append}
 use lib.Seq.{split_at}
 use Rattle.chain.specs.Positions.{at, At, In, Once}
-use Rattle.chain.proofs.Positions.{none_is_not_some, some_injective, within, at_right, stays, in_either, at_is_get_d}
+use Rattle.chain.proofs.Positions.{none_is_not_some, some_injective, within, at_right, stays, in_either, at_is_get_or}
 
 there_or_not : (c : List ℕ) (n : ℕ) → In c n ⊎ ((k : ℕ) → At c k n → ⊥)
 unfolding at
@@ -63,7 +63,7 @@ at_most (suc n) c f b =
     without again h =
         let c₁ = take h.0 c in
         let c₂ = drop (suc h.0) c in
-        let e : c ≡ c₁ ++ (n ∷ c₂) = split_at c h.0 0 (within c h.0 h.1) ∙ ap (λ (y : ℕ). c₁ ++ (y ∷ c₂)) (at_is_get_d c h.0 n 0 h.1) in
+        let e : c ≡ c₁ ++ (n ∷ c₂) = split_at c h.0 0 (within c h.0 h.1) ∙ ap (λ (y : ℕ). c₁ ++ (y ∷ c₂)) (at_is_get_or c h.0 n 0 h.1) in
         let f' : Once (c₁ ++ (n ∷ c₂)) = subst (λ (l : List ℕ). Once l) e f in
         let b' = subst (λ (l : List ℕ). (k x : ℕ) → At l k x → x < suc n) e b in
         let z =

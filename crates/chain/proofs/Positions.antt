@@ -92,11 +92,11 @@ module _ {A : Type 0} where
           (e, some_injective (sym p ∙ ap (at (c ++ (x ∷ []))) e ∙ at_the_end c x))
 
   -- as the libraries read lists
-  pub at_is_get_d : (c : List A) (k : ℕ) (x d : A) → At c k x → get_or c k d ≡ x
+  pub at_is_get_or : (c : List A) (k : ℕ) (x d : A) → At c k x → get_or c k d ≡ x
   unfolding at
-  at_is_get_d [] k x d p = absurd (none_is_not_some refl p)
-  at_is_get_d (y ∷ ys) zero x d p = some_injective p
-  at_is_get_d (y ∷ ys) (suc k) x d p = at_is_get_d ys k x d p
+  at_is_get_or [] k x d p = absurd (none_is_not_some refl p)
+  at_is_get_or (y ∷ ys) zero x d p = some_injective p
+  at_is_get_or (y ∷ ys) (suc k) x d p = at_is_get_or ys k x d p
 
   pub drop_from : (c : List A) (k : ℕ) (x : A) → At c k x → drop k c ≡ x ∷ drop (suc k) c
   unfolding at

@@ -13,7 +13,7 @@ use native.Mathlib.Omega.{arith}
 use lib.ListN.{length, get_or, drop, length-drop}
 use borrow.Author.Tests.{eqb-true, eq-eqb}
 use Rattle.chain.specs.Positions.{at, At, In}
-use Rattle.chain.proofs.Positions.{none_is_not_some, some_injective, within, element, at_is_get_d}
+use Rattle.chain.proofs.Positions.{none_is_not_some, some_injective, within, element, at_is_get_or}
 use Rattle.chain.proofs.Following.{last_has_none}
 use Rattle.cells.specs.declared.Tail.{Tail}
 use Rattle.cells.specs.declared.Front.{Front}
@@ -74,7 +74,7 @@ module _ (g : Ghost) (ends : InvEnds g) (k : Request) (a : ℕ) where
   if_linked_lem : (p : ℕ) → Linked g a p → (w : LinkedOrNot g a) → position_if k g a w ≡ goal_from k p
   if_linked_lem p l (inl w) =
       let same : w.0 - 1 ≡ l.step = omega (arith, ends.linked_once _ _ _ w.1 l.is) in
-      ap (goal_from k) (ap (λ (j : ℕ). get_or g.ends j 0) same ∙ at_is_get_d g.ends l.step p 0 l.from)
+      ap (goal_from k) (ap (λ (j : ℕ). get_or g.ends j 0) same ∙ at_is_get_or g.ends l.step p 0 l.from)
   if_linked_lem p l (inr w) = absurd (w (suc l.step) l.is)
 
   if_not : NotLinked g a → (w : LinkedOrNot g a) → position_if k g a w ≡ k.old_head.count.0

@@ -12,7 +12,7 @@ use lib.ListN.{length, get_or, take, drop, length-drop, length-map}
 use lib.Seq.{get_or-set_same, take_all, drop_at}
 use Rattle.refusal.proofs.Tests.{either_way}
 use Rattle.chain.specs.Positions.{at, At, In}
-use Rattle.chain.proofs.Positions.{some_injective, within, element, at_is_get_d}
+use Rattle.chain.proofs.Positions.{some_injective, within, element, at_is_get_or}
 use Rattle.tally.specs.Fifo.{results, successful}
 use Rattle.tally.specs.Excess.{enqueued, enqueues}
 use Rattle.tally.specs.Tally.{tally_of, successful_on}
@@ -123,7 +123,7 @@ module _ (m : Machine) (g : Ghost) (s : Story) (i : ℕ) (r : Row) (here : Here 
     c = get_or s.announced a no_called
 
     is_the_call : At s.announced a (get_or s.announced a no_called)
-    is_the_call = the_call.1 ∙ ap some (sym (at_is_get_d s.announced a the_call.0 no_called the_call.1))
+    is_the_call = the_call.1 ∙ ap some (sym (at_is_get_or s.announced a the_call.0 no_called the_call.1))
 
     -- a3, taken
     module _ (l : Tail) (knows : KnowsRun (shared_of m) g a (A3 l)) (free : next m.links l.node ≡ none)

@@ -10,7 +10,7 @@ use native.Mathlib.Omega.{arith}
 use lib.Dec.{eqb}
 use borrow.Author.Tests.{eqb-true, eqb-false}
 use Rattle.chain.specs.Positions.{At, In}
-use Rattle.chain.proofs.Positions.{none_is_not_some, some_injective, within, stays, at_the_end, at_is_get_d}
+use Rattle.chain.proofs.Positions.{none_is_not_some, some_injective, within, stays, at_the_end, at_is_get_or}
 use Rattle.chain.proofs.Following.{none_is_the_last}
 use Rattle.refusal.proofs.Tests.{either_way}
 use Rattle.cells.specs.declared.Tail.{Tail}
@@ -50,7 +50,7 @@ module _ (s : Shared) (g : Ghost) (i : Inv s g) (t : ℕ) (r : Row) (a : ℕ) (k
   runs_on y x h = reads_only s g i t r y (running_at a k x) (there, resumes, h)
 
   pub own_batch : At g.batches a (batch_of g a)
-  own_batch = let b = the_batch s g i t r a there in b.1 ∙ ap some (sym (at_is_get_d g.batches a b.0 no_batch b.1))
+  own_batch = let b = the_batch s g i t r a there in b.1 ∙ ap some (sym (at_is_get_or g.batches a b.0 no_batch b.1))
 
   pub asks : Asks (announcement_at s.announcements a) (batch_of g a)
   asks = i.batches.asks a (batch_of g a) own_batch

@@ -70,7 +70,7 @@ results_told m [] = []
 results_told m (e ∷ es) = map (λ r. (thread_of e % 8, r)) (results_in (apply m e).answer) ++ results_told (apply m e).machine es
 
 -- Of a fresh machine m and a list of entries: its events leave the machine that the entries leave, the story has the results that the entries told, in
--- their order, and the promises hold. proofs/Ordered.antt has the theorem, calls-take-effect-in-order: for every set-up that is accepted and every
+-- their order, and the promises hold. proofs/Ordered.antt has the theorem, calls_take_effect_in_order: for every set-up that is accepted and every
 -- list of entries, refused ones among them.
 pub record InOrder (m : Machine) (es : List Entry) : Type 0 where
   pub reached : after m es ≡ after_events m (events m es)

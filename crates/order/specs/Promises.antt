@@ -1,6 +1,6 @@
 -- Demand 3, first half: what is promised of the queue after any list of entries from a fresh machine (a refused entry changes nothing):
 -- "the linked nodes form one chain from the first dummy, no loop, each node once; the tail is at the last node or one link step behind;
--- no walk runs off the end." proofs/Promises.antt has the theorem, the-queue-is-a-queue.
+-- no walk runs off the end." proofs/Promises.antt has the theorem, the_queue_is_a_queue.
 use Rattle.std.specs.Prelude.{ℕ, suc, ◌<◌, ◌≤◌, ◌≡◌, true, List, [], ◌∷◌, ◌++◌, ◌⊎◌, length}
 use Rattle.std.proofs.Math.Option.{some}
 use Rattle.chain.specs.Positions.{At, In, Once}
