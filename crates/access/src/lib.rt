@@ -4,7 +4,7 @@
 ghost use Rattle.std.specs.Prelude.{◌≡◌, ◌<◌};
 ghost use Rattle.access.specs.Reach.{node_of, announcement_of};
 
-use cells::{Announcement, Cell, Front, Head, Tail};
+use cells::{Announcement, Front, Head, Tail};
 
 // One access. A link is only ever compared with none and swapped.
 #[derive(Clone, Copy)]
@@ -21,7 +21,8 @@ pub enum Access {
 }
 
 // The remainders make every access total; no reachable machine holds a node from 512 or an
-// announcement from 64 on.
+// announcement from 64 on. Where an access reaches no link, or no announcement, the contract says 0, which an
+// `Option` would not keep.
 impl Access {
     // The node whose link the access reaches.
     #[tactic(auto, unfolding(crate::specs::Reach::node_of))]
@@ -29,15 +30,10 @@ impl Access {
         ensures { (result ≡ node_of self) × (result < 512) }
     {
         match self {
-            Access::ReadLink { node } => (node % Cell::NODES) as usize,
-            Access::CasLink { node, to: _ } => (node % Cell::NODES) as usize,
-            Access::ReadHead => 0,
-            Access::ReadTail => 0,
-            Access::ReadOldTail { of: _ } => 0,
-            Access::CasTail { was: _, to: _ } => 0,
-            Access::CasHead { was: _, to: _ } => 0,
-            Access::WriteOldTail { of: _, tail: _ } => 0,
-            Access::Announce { own: _, was: _ } => 0,
+            Access::ReadLink { node } | Access::CasLink { node, .. } => {
+                usize::from(node % Tail::NODES)
+            }
+            _ => 0,
         }
     }
 
@@ -47,15 +43,10 @@ impl Access {
         ensures { (result ≡ announcement_of self) × (result < 64) }
     {
         match self {
-            Access::ReadOldTail { of } => (of % Announcement::ANNOUNCEMENTS) as usize,
-            Access::WriteOldTail { of, tail: _ } => (of % Announcement::ANNOUNCEMENTS) as usize,
-            Access::Announce { own, was: _ } => (own % Announcement::ANNOUNCEMENTS) as usize,
-            Access::ReadHead => 0,
-            Access::ReadTail => 0,
-            Access::ReadLink { node: _ } => 0,
-            Access::CasLink { node: _, to: _ } => 0,
-            Access::CasTail { was: _, to: _ } => 0,
-            Access::CasHead { was: _, to: _ } => 0,
+            Access::ReadOldTail { of }
+            | Access::WriteOldTail { of, .. }
+            | Access::Announce { own: of, .. } => usize::from(of % Announcement::ANNOUNCEMENTS),
+            _ => 0,
         }
     }
 }

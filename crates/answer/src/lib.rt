@@ -6,78 +6,74 @@ ghost use Rattle.answer.specs.Answer.{answered, value};
 
 use refusal::Refusal;
 
-#[derive(Clone, Copy)]
+#[derive(Clone, Copy, Debug, Default, PartialEq, Eq)]
 pub struct Item {
     pub value: u32,
 }
 
-// The result of a deferred call, once it is done.
-#[derive(Clone, Copy)]
-pub enum Outcome {
-    Waiting,
+// The result of a call: an enqueue's, a dequeue's that got an item, and that of one that found none.
+#[derive(Clone, Copy, Debug, PartialEq, Eq)]
+pub enum CallResult {
     Ok,
     Item(Item),
     Empty,
 }
 
-// A deferred call: the thread that made it, whether it is an enqueue, and its result.
+// Which of the two calls one is.
+#[derive(Clone, Copy, Debug, PartialEq, Eq)]
+pub enum Operation {
+    Dequeue,
+    Enqueue,
+}
+
+// A deferred call: the thread that made it, which call it is, and its result once it is done.
 #[derive(Clone, Copy)]
 pub struct Future {
     pub owner: u8,
-    pub enqueue: bool,
-    pub outcome: Outcome,
+    pub operation: Operation,
+    pub outcome: Option<CallResult>,
 }
 
-#[derive(Clone, Copy)]
+// What an accepted entry answers; a call that ends answers its result.
+#[derive(Clone, Copy, Debug, PartialEq, Eq)]
 pub enum Answer {
     Started,
     Future(u32),
-    Ok,
-    Item(Item),
-    Empty,
+    Ended(CallResult),
     More,
-    Refused(Refusal),
-}
-
-// Whether a refusal is given; nothing has changed yet.
-#[derive(Clone, Copy)]
-pub enum Verdict {
-    Accepted,
-    Refused(Refusal),
 }
 
 impl Future {
     pub const FUTURES: u16 = 512;
-}
 
-impl Outcome {
-    // The answer that gives it. A future that a batch's end leaves waiting would answer Empty; there is
-    // none in a machine that entries reach.
+    // The answer that gives its result. A future that a batch's end leaves waiting would answer Empty;
+    // there is none in a machine that entries reach.
     pub fn answer(self) -> Answer
-        ensures { result ≡ answered self }
+        ensures { result ≡ answered self.outcome }
     {
-        match self {
-            Outcome::Waiting => Answer::Empty,
-            Outcome::Ok => Answer::Ok,
-            Outcome::Item(item) => Answer::Item(item),
-            Outcome::Empty => Answer::Empty,
-        }
+        Answer::Ended(self.outcome.unwrap_or(CallResult::Empty))
     }
 }
 
 impl Answer {
-    // The number beside the answer's word: the future, the item or the refusal's number, 0 where none is.
+    // The number beside the answer's word: the future or the item; 0 where none is, as the listing's column has it.
     pub fn value(self) -> u32
-        ensures { result ≡ value self }
+        ensures { result ≡ value (Ok self) }
     {
         match self {
-            Answer::Started => 0,
             Answer::Future(future) => future,
-            Answer::Ok => 0,
-            Answer::Item(item) => item.value,
-            Answer::Empty => 0,
-            Answer::More => 0,
-            Answer::Refused(refusal) => refusal.number(),
+            Answer::Ended(CallResult::Item(item)) => item.value,
+            Answer::Started | Answer::Ended(_) | Answer::More => 0,
         }
+    }
+}
+
+// The number beside the word of what an entry is told: its answer's, or the refusal's.
+pub fn told_value(told: Result<Answer, Refusal>) -> u32
+    ensures { result ≡ value told }
+{
+    match told {
+        Ok(answer) => answer.value(),
+        Err(refusal) => refusal.number(),
     }
 }

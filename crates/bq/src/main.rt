@@ -1,79 +1,72 @@
-// The listing program: reads a schedule from standard input and writes its listing to standard output, in
-// blocks. What is written is made by the crates listing and line; this is the reading and writing alone.
+//! The listing program: reads a schedule from standard input and writes its listing to standard output, in
+//! blocks. What is written is made by the crates listing and line; this is the reading and writing alone.
 #![tactic(auto)]
 
-use answer::Verdict;
-use lent::Writing;
-use listing::{Listing, Opened};
+ghost use Rattle.std.specs.Prelude.{OnOk};
+ghost use Rattle.std.specs.Io.KnownBytes.{Appends};
+ghost use Rattle.line.specs.Text.{first_text};
+ghost use Rattle.listing.specs.Listing.{listing, counted};
+ghost use Rattle.listing.specs.Pieces.{last_line};
+ghost use Rattle.bq.specs.Told.{TellsAll};
 
-// Of longer input only the first 65,536 bytes count: no more are read.
-fn main() {
-    let mut input = io::large_buffer();
-    let n = io::read_full(0, &mut input);
-    list(&input[..n]);
+use listing::Listing;
+use machine::Machine;
+use refusal::Refusal;
+use std::io;
+use std::io::{Read, Write};
+
+/// Of longer input only the first 65,536 bytes count: no more are read.
+fn main(rt: HostRuntime) -> io::Result<()> {
+    let mut input = Vec::new(rt.alloc());
+    rt.reader().take(65536).read_to_end(&mut input)?;
+    let mut out = io::writer(&rt);
+    list(&input, &mut out)
 }
 
-fn list(s: &[u8]) {
-    let opened = Opened::of(s);
-    first(opened);
-    let verdict = opened.verdict;
-    match verdict {
-        Verdict::Refused(_) => {}
-        Verdict::Accepted => {
-            let listing = opened.listing;
-            last(entries(listing, s));
+/// Writes the listing of a schedule, and nothing else.
+fn list<W: Write>(s: &[u8], out: &mut W) -> io::Result<()>
+    ensures { OnOk result (Appends (W.contents out.old) (W.contents out.new) (listing s.now)) }
+{
+    match Listing::of(s) {
+        Err(refusal) => first(Err(refusal), out),
+        Ok(mut listing) => {
+            first(Ok(listing.machine), out)?;
+            entries(&mut listing, s, out)
         }
     }
 }
 
-fn first(opened: Opened) {
-    let verdict = opened.verdict;
-    let listing = opened.listing;
-    let machine = listing.machine;
-    let line = line::first(verdict, machine);
-    let bytes = line.bytes;
-    let count = line.count;
-    write(&bytes, Writing::Wrote { count });
+/// The set-up's line, or why it is refused.
+fn first<W: Write>(made: Result<Machine, Refusal>, out: &mut W) -> io::Result<()>
+    ensures { OnOk result (Appends (W.contents out.old) (W.contents out.new) (first_text made)) }
+{
+    let line = line::first(made);
+    out.write_all(&line.bytes[..line.count])
 }
 
-// Block by block. A block tells an entry at least, and an entry takes a byte at least.
-fn entries(opened: Listing, s: &[u8]) -> Listing {
-    let mut listing = opened;
-    let mut left = s.len();
-    while 0 < left {
-        if listing.going {
-            listing = block(listing, s);
-            left -= 1;
-        } else {
-            left = 0;
+/// Block by block. A block tells an entry at least, and an entry takes a byte at least. `Listing::tell` is lent an array, as
+/// `line::queue` is below: their contracts are of what stands in it then.
+fn entries<W: Write>(listing: &mut Listing, s: &[u8], out: &mut W) -> io::Result<()>
+    ensures { OnOk result (TellsAll (counted s.now) listing.old (W.contents out.old) (W.contents out.new)) }
+{
+    let mut block = [0u8; 65536];
+    for _round in 0..Listing::BYTES {
+        if !listing.going {
+            break;
         }
+        let count = listing.tell(s, &mut block);
+        out.write_all(&block[..count])?;
     }
-    listing
+    last(listing, out)
 }
 
-fn block(listing: Listing, s: &[u8]) -> Listing {
-    let mut out = io::large_buffer();
-    let lines = listing.lines(s, &mut out);
-    let count = lines.count;
-    write(&out, Writing::Wrote { count });
-    lines.listing
-}
-
-fn last(listing: Listing) {
-    let mut out = io::large_buffer();
-    let machine = listing.machine;
-    let writing = line::queue(machine, &mut out);
-    write(&out, writing);
-}
-
-// No line is longer than the buffers here, so none is refused.
-fn write(out: &[u8], writing: Writing) {
-    match writing {
-        Writing::Wrote { count } => {
-            if count <= out.len() {
-                io::write_all(1, &out[0..count]);
-            }
-        }
-        Writing::Refused { refusal: _ } => {}
+/// No line of what the queue holds is longer than the buffer, so none is refused.
+fn last<W: Write>(listing: &Listing, out: &mut W) -> io::Result<()>
+    ensures { OnOk result (Appends (W.contents out.old) (W.contents out.new) (last_line listing.now)) }
+{
+    let mut line = [0u8; 8192];
+    match line::queue(listing.machine, &mut line) {
+        Ok(count) => out.write_all(&line[..count]),
+        Err(_) => Ok(()),
     }
 }

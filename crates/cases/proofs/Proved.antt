@@ -7,14 +7,13 @@ use native.Mathlib.Omega.{arith}
 use lib.Dec.{eqb}
 use lib.ListN.{length}
 use borrow.Author.Tests.{eqb-true}
-use Rattle.numbers.specs.declared.Reading.{Reading}
-use Rattle.numbers.specs.declared.Reading.TheVariants.{Number, Refused}
-use Rattle.numbers.specs.Read.{number_at, number, following, before, last_group}
+use Rattle.numbers.specs.Read.{number_at, number, following, before, last_group, Reading, a_number}
 use Rattle.numbers.specs.Write.{groups_of, groups}
 use Rattle.tally.specs.Fifo.{results, result, after, failing, successful}
 use Rattle.tally.specs.Excess.{excess, largest, prefixes, dequeues, enqueued}
 use Rattle.cases.specs.Table.{Case, excess_is, failing_on, successful_on, written, refused, refusal_in, Says, Each, table, calls}
 use lib.ListN.{replicate}
+use Rattle.std.specs.Prelude.{Err, Ok}
 
 same_bytes_lem : List ℕ → List ℕ → Bool
 same_bytes_lem [] [] = true
@@ -23,8 +22,8 @@ same_bytes_lem (a ∷ r) [] = false
 same_bytes_lem (a ∷ r) (b ∷ s) = eqb a b && same_bytes_lem r s
 
 reads_as_lem : Reading → ℕ → ℕ → Bool
-reads_as_lem (Number v next) n m = eqb v n && eqb next m
-reads_as_lem (Refused r) n m = false
+reads_as_lem (Ok found) n m = eqb found.value n && eqb found.next m
+reads_as_lem (Err r) n m = false
 
 holds : Case → Bool
 holds (excess_is w n) = eqb (excess (calls w)) n
@@ -49,10 +48,10 @@ same_bytes [] (b ∷ s) e = absurd (let z : ◌≡◌ {A = ℕ} 0 1 = cc in omeg
 same_bytes (a ∷ r) [] e = absurd (let z : ◌≡◌ {A = ℕ} 0 1 = cc in omega arith)
 same_bytes (a ∷ r) (b ∷ s) e = let t = both (eqb a b) (same_bytes_lem r s) e in ap₂ {C = List ℕ} (λ x l. x ∷ l) (eqb-true a b t.0) (same_bytes r s t.1)
 
-reads_as : (r : Reading) (n m : ℕ) → reads_as_lem r n m ≡ true → r ≡ Number n m
+reads_as : (r : Reading) (n m : ℕ) → reads_as_lem r n m ≡ true → r ≡ a_number n m
 unfolding reads_as_lem
-reads_as (Number v next) n m e = let t = both (eqb v n) (eqb next m) e in ap₂ Number (eqb-true v n t.0) (eqb-true next m t.1)
-reads_as (Refused r) n m e = absurd (let z : ◌≡◌ {A = ℕ} 0 1 = cc in omega arith)
+reads_as (Ok found) n m e = let t = both (eqb found.value n) (eqb found.next m) e in ap₂ a_number (eqb-true found.value n t.0) (eqb-true found.next m t.1)
+reads_as (Err r) n m e = absurd (let z : ◌≡◌ {A = ℕ} 0 1 = cc in omega arith)
 
 says : (c : Case) → holds c ≡ true → Says c
 unfolding holds

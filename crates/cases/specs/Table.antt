@@ -1,10 +1,8 @@
 -- 01, "Cases beside each edge", those marked P: the table, and what each row says.
 -- A list of calls is written as 01 writes it, a word of E (enqueue) and D (dequeue); a byte string as its bytes.
-use Rattle.std.specs.Prelude.{ℕ, ◌≡◌, List, [], ◌∷◌, length, replicate}
+use Rattle.std.specs.Prelude.{ℕ, ◌≡◌, List, [], ◌∷◌, length, replicate, Err, Ok}
 use Rattle.refusal.specs.Numbers.{number_of}
-use Rattle.numbers.specs.declared.Reading.{Reading}
-use Rattle.numbers.specs.declared.Reading.TheVariants.{Number, Refused}
-use Rattle.numbers.specs.Read.{number_at}
+use Rattle.numbers.specs.Read.{number_at, Reading, a_number}
 use Rattle.numbers.specs.Write.{groups_of}
 use Rattle.tally.specs.Fifo.{Call, enqueue, dequeue, results, failing, successful}
 use Rattle.tally.specs.Excess.{excess}
@@ -30,14 +28,14 @@ pub data Case : Type 0 where
 
 -- the number of the refusal that reading gives, 0 where it gives a number
 abbrev pub refusal_in : Reading → ℕ
-refusal_in (Number v next) = 0
-refusal_in (Refused r) = number_of r
+refusal_in (Ok found) = 0
+refusal_in (Err r) = number_of r
 
 abbrev pub Says : Case → Type 0
 Says (excess_is w n) = excess (calls w) ≡ n
 Says (failing_on w n k) = failing (results (calls w) (replicate n 0)) ≡ k
 Says (successful_on w n k) = successful (results (calls w) (replicate n 0)) ≡ k
-Says (written n bytes) = (groups_of n ≡ bytes) × (number_at bytes 0 ≡ Number n (length bytes))
+Says (written n bytes) = (groups_of n ≡ bytes) × (number_at bytes 0 ≡ a_number n (length bytes))
 Says (refused bytes n) = refusal_in (number_at bytes 0) ≡ n
 
 -- the batch of 13 letters, and the one that document 002 prints

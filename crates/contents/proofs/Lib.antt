@@ -1,3 +1,2 @@
 pub mod Chains
-pub mod Heads
 pub mod Determined

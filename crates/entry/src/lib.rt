@@ -5,7 +5,6 @@ ghost use Rattle.std.specs.Prelude.{◌≡◌};
 ghost use Rattle.entry.specs.Operands.{thread_of, future_of};
 ghost use Rattle.entry.specs.Range.{in_range};
 
-use answer::Verdict;
 use refusal::Refusal;
 
 // An entry with its operands, as 01's table has them.
@@ -29,50 +28,36 @@ impl Entry {
         ensures { result ≡ thread_of self }
     {
         match self {
-            Entry::Enqueue { thread, item: _ } => thread,
-            Entry::Dequeue { thread } => thread,
-            Entry::FutureEnqueue { thread, item: _ } => thread,
-            Entry::FutureDequeue { thread } => thread,
-            Entry::Evaluate { thread, future: _ } => thread,
-            Entry::Step { thread } => thread,
-            Entry::Run { thread, steps: _ } => thread,
+            Entry::Enqueue { thread, .. }
+            | Entry::Dequeue { thread }
+            | Entry::FutureEnqueue { thread, .. }
+            | Entry::FutureDequeue { thread }
+            | Entry::Evaluate { thread, .. }
+            | Entry::Step { thread }
+            | Entry::Run { thread, .. } => thread,
         }
     }
 
-    // The future that Evaluate names; the others name none, and answer 0.
+    // The future that Evaluate names; the others name none, and answer 0, as the contract says, which an `Option` would not
+    // keep.
     pub fn future(self) -> u32
         ensures { result ≡ future_of self }
     {
         match self {
-            Entry::Enqueue { thread: _, item: _ } => 0,
-            Entry::Dequeue { thread: _ } => 0,
-            Entry::FutureEnqueue { thread: _, item: _ } => 0,
-            Entry::FutureDequeue { thread: _ } => 0,
-            Entry::Evaluate { thread: _, future } => future,
-            Entry::Step { thread: _ } => 0,
-            Entry::Run {
-                thread: _,
-                steps: _,
-            } => 0,
+            Entry::Evaluate { future, .. } => future,
+            _ => 0,
         }
     }
 }
 
-// Refusal 9: a set-up has 1 to 8 threads and 2 to 512 nodes, the dummy among them.
-pub fn in_range(threads: u32, nodes: u32) -> Verdict
+// Refusal 9: a set-up has 1 to 8 threads and 2 to 512 nodes, the dummy among them. Two plain numbers here and wherever a
+// set-up is asked for: a type of good ones alone would ask more of callers.
+pub fn in_range(threads: u32, nodes: u32) -> Result<(), Refusal>
     ensures { result ≡ in_range threads nodes }
 {
-    if threads < 1 {
-        return Verdict::Refused(Refusal::SetupOutOfRange);
+    if (1..=Entry::THREADS).contains(&threads) && (2..=Entry::NODES).contains(&nodes) {
+        Ok(())
+    } else {
+        Err(Refusal::SetupOutOfRange)
     }
-    if Entry::THREADS < threads {
-        return Verdict::Refused(Refusal::SetupOutOfRange);
-    }
-    if nodes < 2 {
-        return Verdict::Refused(Refusal::SetupOutOfRange);
-    }
-    if Entry::NODES < nodes {
-        return Verdict::Refused(Refusal::SetupOutOfRange);
-    }
-    Verdict::Accepted
 }

@@ -1,12 +1,9 @@
 -- What a step goes on with, taken out of what its access found. Where another kind of access was made the value has no meaning; no step asks for it.
-use Rattle.std.specs.Prelude.{Bool, false}
+use Rattle.std.specs.Prelude.{Bool, false, None}
 use Rattle.cells.specs.declared.Tail.{Tail}
 use Rattle.cells.specs.declared.Head.{Head}
 use Rattle.cells.specs.declared.Head.TheVariants.{Announced}
-use Rattle.cells.specs.declared.Link.{Link}
-use Rattle.cells.specs.declared.Link.TheVariants.{None}
-use Rattle.cells.specs.declared.OldTail.{OldTail}
-use Rattle.cells.specs.declared.OldTail.TheVariants.{Unset}
+use Rattle.cells.specs.Links.{Link, OldTail}
 use Rattle.cells.specs.Ends.{no_tail}
 use Rattle.found.specs.declared.Found.{Found}
 use Rattle.found.specs.declared.Found.TheVariants as found
@@ -33,11 +30,11 @@ link_in (found.OldTail o) = None
 link_in (found.Taken b) = None
 
 abbrev pub old_tail_in : Found → OldTail
-old_tail_in (found.Head h) = Unset
-old_tail_in (found.Tail t) = Unset
-old_tail_in (found.Link l) = Unset
+old_tail_in (found.Head h) = None
+old_tail_in (found.Tail t) = None
+old_tail_in (found.Link l) = None
 old_tail_in (found.OldTail o) = o
-old_tail_in (found.Taken b) = Unset
+old_tail_in (found.Taken b) = None
 
 abbrev pub taken_in : Found → Bool
 taken_in (found.Head h) = false

@@ -7,15 +7,13 @@ use mathlib.Core.Logic.{inl, inr}
 use native.Mathlib.Omega.{arith}
 use lib.Dec.{eqb}
 use native.Mathlib.Nat.{mod-eq_of_lt}
+use Rattle.std.specs.Prelude.{None, Some}
 use Rattle.refusal.specs.declared.Refusal.TheVariants.{NotOwnFuture}
 use Rattle.tally.specs.Tally.{up}
 use Rattle.next.specs.declared.Used.{Used}
 use Rattle.answer.specs.declared.Item.{Item}
-use Rattle.answer.specs.declared.Outcome.{Outcome}
-use Rattle.answer.specs.declared.Outcome.TheVariants as outcome
+use Rattle.answer.specs.Answer.{Outcome}
 use Rattle.answer.specs.declared.Future.{Future}
-use Rattle.answer.specs.declared.Verdict.{Verdict}
-use Rattle.answer.specs.declared.Verdict.TheVariants as verdict
 use Rattle.next.specs.Next.{next_node, next_future, next_announcement}
 use Rattle.refuse.specs.Refusals.{foreign}
 use Rattle.machine.specs.declared.Machine.{Machine}
@@ -27,6 +25,8 @@ use Rattle.machine.specs.Steps.{step_of, is_more, one_more, advance}
 use Rattle.machine.specs.Entries.{refusing, decided, linked_behind, defer_enqueue, defer_dequeue, set_off, start_enqueue, start_dequeue, evaluate_waiting, evaluate_own, evaluate_known, enqueue, dequeue, future_enqueue, future_dequeue, evaluate, run, apply}
 use Rattle.laws.specs.HandingOut.{AtMostOne, HandsOut}
 use Rattle.laws.proofs.StepChanges.{step_changes}
+use Rattle.refusal.specs.Verdicts.{Verdict}
+use Rattle.std.specs.Prelude.{Err, Ok}
 
 -- while one is left, the next number is the count of those before, and the count after it is one more
 in_order : (limit n : ℕ) → n < limit → limit ≤ 512 → (n % limit ≡ n) × (up n ≡ suc n)
@@ -46,8 +46,8 @@ nothing u = record { nodes = inl refl; futures = inl refl; announcements = inl r
 
 decided_hands_out : (m : Machine) (v : Verdict) (x : Told) → HandsOut m.used x.machine.used → HandsOut m.used (decided v m x).machine.used
 unfolding decided
-decided_hands_out m verdict.Accepted x h = h
-decided_hands_out m (verdict.Refused r) x h = nothing m.used
+decided_hands_out m (Ok ok) x h = h
+decided_hands_out m (Err r) x h = nothing m.used
 
 -- used counts of one of two machines
 either : (P : Used → Type 0) (b : Bool) (m n : Machine) → P m.used → P n.used → P (cond b m n).used
@@ -89,10 +89,8 @@ dequeue_hands_out m i =
 
 own_hands_out : (m : Machine) (i f : ℕ) (o : Outcome) → HandsOut m.used (evaluate_own m i f o).machine.used
 unfolding evaluate_own evaluate_waiting
-own_hands_out m i f outcome.Waiting = decided_hands_out m _ _ (behind m.used m.used _ (inl refl) (inl refl) refl (set_off_announces m i f))
-own_hands_out m i f outcome.Ok = nothing m.used
-own_hands_out m i f (outcome.Item v) = nothing m.used
-own_hands_out m i f outcome.Empty = nothing m.used
+own_hands_out m i f None = decided_hands_out m _ _ (behind m.used m.used _ (inl refl) (inl refl) refl (set_off_announces m i f))
+own_hands_out m i f (Some result) = nothing m.used
 
 known_hands_out : (m : Machine) (t f : ℕ) (x : Future) → HandsOut m.used (evaluate_known m t f x).machine.used
 unfolding evaluate_known

@@ -1,4 +1,5 @@
 -- A step that does not end the call leaves the thread in it: no step of a call leads to idle but its last.
+use Rattle.std.specs.Prelude.{None, Some}
 use Prim.Native.Nat.{ℕ, ◌≤◌}
 use mathlib.Core.Path.{◌≡◌, refl, sym, ap, ◌∙◌}
 use mathlib.Core.Bool.{Bool, true, false, true≢false, false≢true}
@@ -13,8 +14,7 @@ use Rattle.cells.specs.declared.Front.{Front}
 use Rattle.cells.specs.declared.Tail.{Tail}
 use Rattle.cells.specs.declared.Head.{Head}
 use Rattle.cells.specs.declared.Head.TheVariants.{Plain, Announced}
-use Rattle.cells.specs.declared.Link.{Link}
-use Rattle.cells.specs.declared.Link.TheVariants.{None, To}
+use Rattle.cells.specs.Links.{Link}
 use Rattle.cells.specs.declared.Request.{Request}
 use Rattle.found.specs.declared.Found.{Found}
 use Rattle.found.specs.Found.{head_in, link_in, taken_in}
@@ -59,7 +59,7 @@ InCall (afterwards.PairDequeues x s) = Unit {0}
 
 e2 : (n : ℕ) (t : Tail) (l : Link) → InCall (after_e2 n t l)
 e2 n t None = refl
-e2 n t (To x) = refl
+e2 n t (Some x) = refl
 
 e4 : (n : ℕ) (t : Tail) (x : ℕ) (h : Head) → InCall (after_e4 n t x h)
 e4 n t x (Plain f) = refl
@@ -79,7 +79,7 @@ d1 (Announced a) = refl
 
 d2 : (f : Front) (l : Link) → InCall (after_d2 f l)
 d2 f None = tt
-d2 f (To x) = refl
+d2 f (Some x) = refl
 
 d3 : (x : ℕ) (b : Bool) → InCall (after_d3 x b)
 d3 x true = tt
@@ -110,7 +110,7 @@ q1 (Announced a) = refl
 
 q2 : (w : Walk) (l : Link) (d : ℕ) → InCall (after_q2 w l d)
 q2 w None d = either_way InCall (eqb w.taken 0) (λ e. tt) (λ e. refl)
-q2 w (To x) d = either_way InCall (ltb (one_further w x).taken d) (λ e. refl) (λ e. refl)
+q2 w (Some x) d = either_way InCall (ltb (one_further w x).taken d) (λ e. refl) (λ e. refl)
 
 q3 : (w : Walk) (b : Bool) → InCall (after_q3 w b)
 q3 w true = tt

@@ -3,17 +3,13 @@
 use Prim.Native.Nat.{ℕ, zero, suc, ◌%◌}
 use mathlib.Core.Path.{◌≡◌, refl, sym, ap, ◌∙◌}
 use mathlib.Core.Bool.{Bool, true, false, false≢true, cond}
+use Rattle.std.specs.Prelude.{None, Some, Ok, Err}
 use Rattle.refusal.specs.declared.Refusal.{Refusal}
 use Rattle.refusal.specs.declared.Refusal.TheVariants.{NotOwnFuture}
-use Rattle.answer.specs.declared.Outcome.{Outcome}
-use Rattle.answer.specs.declared.Outcome.TheVariants as outcome
+use Rattle.answer.specs.Answer.{Outcome, AnswerOrRefusal}
 use Rattle.answer.specs.declared.Future.{Future}
-use Rattle.answer.specs.declared.Answer.{Answer}
-use Rattle.answer.specs.declared.Answer.TheVariants.{Started, Ok, Item, Empty, More, Refused}
+use Rattle.answer.specs.declared.Answer.TheVariants.{Started, Ended}
 use Rattle.answer.specs.declared.Answer.TheVariants as answer
-use Rattle.answer.specs.declared.Verdict.{Verdict}
-use Rattle.answer.specs.declared.Verdict.TheVariants as verdict
-use Rattle.answer.specs.Answer.{answered}
 use Rattle.refuse.specs.Refusals.{foreign}
 use Rattle.next.specs.Next.{next_future}
 use Rattle.place.specs.declared.After.{After}
@@ -22,24 +18,19 @@ use Rattle.machine.specs.declared.Machine.{Machine}
 use Rattle.machine.specs.declared.Told.{Told}
 use Rattle.entry.specs.declared.Entry.{Entry}
 use Rattle.entry.specs.declared.Entry.TheVariants.{Enqueue, Dequeue, FutureEnqueue, FutureDequeue, Evaluate, Step, Run}
-use Rattle.machine.specs.State.{row_at, future_at}
-use Rattle.machine.specs.Pairing.{pairing, settled, batch_cursor, dequeues_cursor}
-use Rattle.pairing.specs.declared.Cursor.{Cursor}
+use Rattle.machine.specs.State.{future_at}
+use Rattle.machine.specs.Pairing.{settled}
 use Rattle.machine.specs.Steps.{hop, tell, step_of, is_more, one_more, advance}
 use Rattle.machine.specs.Entries.{refusing, telling, decided, start_enqueue, start_dequeue, defer_enqueue, defer_dequeue, set_off, evaluate_waiting, evaluate_own, evaluate_known, enqueue, dequeue, future_enqueue, future_dequeue, evaluate, run, apply}
+use Rattle.refusal.specs.Verdicts.{Verdict}
 
-abbrev is_refused : Answer → Bool
-is_refused Started = false
-is_refused (answer.Future f) = false
-is_refused Ok = false
-is_refused (Item v) = false
-is_refused Empty = false
-is_refused More = false
-is_refused (Refused r) = true
+abbrev is_refused : AnswerOrRefusal → Bool
+is_refused (Ok a) = false
+is_refused (Err r) = true
 
 -- what an entry tells, where a refusal means that nothing changed
 Honest : Machine → Told → Type 0
-Honest m x = (r : Refusal) → x.answer ≡ Refused r → (x.machine ≡ m) × (x.steps ≡ 0)
+Honest m x = (r : Refusal) → x.answer ≡ Err r → (x.machine ≡ m) × (x.steps ≡ 0)
 
 refusing_honest : (m : Machine) (r : Refusal) → Honest m (refusing m r)
 unfolding Honest
@@ -51,27 +42,18 @@ accepted_honest m x n r e = absurd (false≢true (sym n ∙ ap is_refused e))
 
 decided_honest : (m : Machine) (v : Verdict) (x : Told) → Honest m x → Honest m (decided v m x)
 unfolding decided
-decided_honest m verdict.Accepted x h = h
-decided_honest m (verdict.Refused r) x h = refusing_honest m r
+decided_honest m (Ok ok) x h = h
+decided_honest m (Err r) x h = refusing_honest m r
 
 -- a result is no refusal
-answered_accepted : (o : Outcome) → is_refused (answered o) ≡ false
-answered_accepted outcome.Waiting = refl
-answered_accepted outcome.Ok = refl
-answered_accepted (outcome.Item v) = refl
-answered_accepted outcome.Empty = refl
-
-settled_accepted : (m : Machine) (i k : ℕ) (c : Cursor) → is_refused (settled m i k c).answer ≡ false
-unfolding settled
-settled_accepted m i k c = answered_accepted (future_at (pairing m i c) (row_at m i).future).outcome
-
 told_accepted : (m : Machine) (i k : ℕ) (a : After) → is_refused (tell m i k a).answer ≡ false
+unfolding settled
 told_accepted m i k (afterwards.On p) = refl
 told_accepted m i k afterwards.Ok = refl
 told_accepted m i k afterwards.Empty = refl
 told_accepted m i k (afterwards.Item n) = refl
-told_accepted m i k (afterwards.Pair from) = settled_accepted m i k (batch_cursor from (row_at m i).first)
-told_accepted m i k (afterwards.PairDequeues from taken) = settled_accepted m i k (dequeues_cursor from taken)
+told_accepted m i k (afterwards.Pair from) = refl
+told_accepted m i k (afterwards.PairDequeues from taken) = refl
 
 either_accepted : (b : Bool) (x y : Told) → is_refused x.answer ≡ false → is_refused y.answer ≡ false → is_refused (cond b x y).answer ≡ false
 either_accepted true x y f g = f
@@ -88,10 +70,8 @@ advance_accepted (suc n) m i =
 
 own_honest : (m : Machine) (i f : ℕ) (o : Outcome) → Honest m (evaluate_own m i f o)
 unfolding evaluate_own evaluate_waiting
-own_honest m i f outcome.Waiting = decided_honest m _ _ (accepted_honest m (telling (set_off m i f) Started) refl)
-own_honest m i f outcome.Ok = accepted_honest m (telling m Ok) refl
-own_honest m i f (outcome.Item v) = accepted_honest m (telling m (Item v)) refl
-own_honest m i f outcome.Empty = accepted_honest m (telling m Empty) refl
+own_honest m i f None = decided_honest m _ _ (accepted_honest m (telling (set_off m i f) Started) refl)
+own_honest m i f (Some result) = accepted_honest m (telling m (Ended result)) refl
 
 known_honest : (m : Machine) (t f : ℕ) (x : Future) → Honest m (evaluate_known m t f x)
 unfolding evaluate_known
@@ -115,6 +95,6 @@ entry_honest m (Evaluate t f) = decided_honest m _ _ (known_honest m t f (future
 entry_honest m (Step t) = run_honest m t 1
 entry_honest m (Run t n) = run_honest m t n
 
-pub refusal_changes_nothing : (m : Machine) (e : Entry) (r : Refusal) → (apply m e).answer ≡ Refused r → ((apply m e).machine ≡ m) × ((apply m e).steps ≡ 0)
+pub refusal_changes_nothing : (m : Machine) (e : Entry) (r : Refusal) → (apply m e).answer ≡ Err r → ((apply m e).machine ≡ m) × ((apply m e).steps ≡ 0)
 unfolding Honest
 refusal_changes_nothing m e r h = entry_honest m e r h

@@ -5,7 +5,8 @@ use mathlib.Core.Path.{◌≡◌, refl, sym, ap, ◌∙◌, subst}
 use mathlib.Core.Logic.{◌⊎◌, inl, inr}
 use mathlib.Core.Bool.{Bool, true, false, true≢false}
 use native.Mathlib.Omega.{arith}
-use Rattle.answer.specs.declared.Answer.{Answer}
+use Rattle.std.specs.Prelude.{Ok}
+use Rattle.answer.specs.Answer.{AnswerOrRefusal}
 use Rattle.answer.specs.declared.Answer.TheVariants.{More}
 use Rattle.machine.specs.declared.Machine.{Machine}
 use Rattle.machine.specs.declared.Told.{Told}
@@ -34,14 +35,14 @@ unfolding advance
 ended m i n e = rw e
 
 -- what was answered is more, or is not
-more_or_not : (a : Answer) → (is_more a ≡ true) ⊎ (is_more a ≡ false)
+more_or_not : (a : AnswerOrRefusal) → (is_more a ≡ true) ⊎ (is_more a ≡ false)
 more_or_not a = bool (is_more a)
   where
     bool : (b : Bool) → (b ≡ true) ⊎ (b ≡ false)
     bool true = inl refl
     bool false = inr refl
 
-none : (m : Machine) (i : ℕ) → advance m i 0 ≡ record { machine = m; answer = More; steps = 0 }
+none : (m : Machine) (i : ℕ) → advance m i 0 ≡ record { machine = m; answer = Ok More; steps = 0 }
 unfolding advance
 none m i = refl
 
@@ -56,7 +57,7 @@ step_counts_one m i k (afterwards.PairDequeues from taken) = refl
 
 -- to show something of every Run: of none, of one whose first step goes on, and of one whose first step ends the call
 pub run_induction : (P : ℕ → Machine → Told → Type 0) (i : ℕ)
-    → ((m : Machine) → P 0 m (record { machine = m; answer = More; steps = 0 }))
+    → ((m : Machine) → P 0 m (record { machine = m; answer = Ok More; steps = 0 }))
     → ((n : ℕ) (m : Machine) (x : Told) → is_more (step_of m i).answer ≡ true → x ≡ advance (step_of m i).machine i n → P n (step_of m i).machine x → P (suc n) m (one_more x))
     → ((n : ℕ) (m : Machine) → is_more (step_of m i).answer ≡ false → P (suc n) m (step_of m i))
     → (n : ℕ) (m : Machine) → P n m (advance m i n)
@@ -69,9 +70,9 @@ run_induction P i p0 p1 p2 (suc n) m =
     turn h (inr f) = subst (P (suc n) m) (sym (ended m i n f)) (p2 n m f)
 
 -- Run of n and then of k
-pub run_of_sum : (k i n : ℕ) (m : Machine) → (advance m i n).answer ≡ More → advance m i (n + k) ≡ more_steps (advance m i n).steps (advance (advance m i n).machine i k)
+pub run_of_sum : (k i n : ℕ) (m : Machine) → (advance m i n).answer ≡ Ok More → advance m i (n + k) ≡ more_steps (advance m i n).steps (advance (advance m i n).machine i k)
 run_of_sum k i =
-    run_induction (λ n m x. x.answer ≡ More → advance m i (n + k) ≡ more_steps x.steps (advance x.machine i k)) i
+    run_induction (λ n m x. x.answer ≡ Ok More → advance m i (n + k) ≡ more_steps x.steps (advance x.machine i k)) i
     (λ m e.
     let all : 0 + k ≡ k = omega arith in
     ap (advance m i) all ∙ told_path (advance m i k) (advance m i k).steps (0 + (advance m i k).steps) (omega arith))
@@ -100,9 +101,9 @@ run_within_budget i =
     (λ n m x t d h. omega arith)
     (λ n m f. omega (arith, step_counts_one (hop m i).machine i 1 (hop m i).after))
 
-pub more_means_all_taken : (i n : ℕ) (m : Machine) → (advance m i n).answer ≡ More → (advance m i n).steps ≡ n
+pub more_means_all_taken : (i n : ℕ) (m : Machine) → (advance m i n).answer ≡ Ok More → (advance m i n).steps ≡ n
 more_means_all_taken i =
-    run_induction (λ n m x. x.answer ≡ More → x.steps ≡ n) i
+    run_induction (λ n m x. x.answer ≡ Ok More → x.steps ≡ n) i
     (λ m e. refl)
     (λ n m x t d h e. ap suc (h e))
     (λ n m f e. absurd (true≢false (sym (ap is_more e) ∙ f)))

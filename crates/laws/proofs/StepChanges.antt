@@ -9,7 +9,7 @@ use native.Mathlib.Decide.{dec_lt}
 use Rattle.answer.specs.declared.Item.{Item}
 use Rattle.answer.specs.declared.Future.{Future}
 use Rattle.pairing.specs.declared.Cursor.{Cursor}
-use Rattle.cells.specs.declared.Cell.{Cell}
+use Rattle.cells.specs.Links.{Link}
 use Rattle.place.specs.declared.After.{After}
 use Rattle.place.specs.declared.After.TheVariants as afterwards
 use Rattle.row.specs.declared.Row.{Row}
@@ -23,7 +23,7 @@ use Rattle.laws.specs.Changes.{Stepped}
 use Rattle.laws.proofs.OneCell.{one_cell}
 
 -- pairing n pending calls from the k-th on leaves every other future
-unpaired : (n : ℕ) (links : List Cell) (items : List Item) (last : ℕ) (pending : List ℕ) (k : ℕ) (fs : List Future) (c : Cursor) (f : ℕ)
+unpaired : (n : ℕ) (links : List Link) (items : List Item) (last : ℕ) (pending : List ℕ) (k : ℕ) (fs : List Future) (c : Cursor) (f : ℕ)
     → ((j : ℕ) → j < n → get_or pending ((k + j) % 32) 0 % 512 ≡ f → ⊥)
     → get_or (pair_from n links items last pending k fs c) f no_future ≡ get_or fs f no_future
 unfolding pair_from

@@ -2,8 +2,7 @@
 use Rattle.std.specs.Prelude.{ℕ, ◌%◌, ◌<◌, ◌≡◌, get_or}
 use Rattle.cells.specs.declared.Tail.{Tail}
 use Rattle.cells.specs.declared.Head.{Head}
-use Rattle.cells.specs.declared.Link.{Link}
-use Rattle.cells.specs.declared.OldTail.{OldTail}
+use Rattle.cells.specs.Links.{Link, OldTail}
 use Rattle.access.specs.declared.Access.{Access}
 use Rattle.access.specs.declared.Access.TheVariants.{ReadHead, ReadTail, ReadLink, ReadOldTail, CasLink, CasTail, CasHead, WriteOldTail, Announce}
 use Rattle.memory.specs.Memory.{Memory, with_head, with_tail, with_link, with_announcement, announcement_at, laid_over}

@@ -11,35 +11,35 @@ use lib.Seq.{take-append_seam, drop-append_seam, take_all, take_at, drop_at, dro
 use borrow.Author.Tests.{le-leb, lt-leb}
 use Rattle.refusal.specs.declared.Refusal.{Refusal}
 use Rattle.refusal.specs.declared.Refusal.TheVariants.{NoRoom}
-use Rattle.lent.specs.declared.Writing.TheVariants.{Wrote, Refused}
 use Rattle.lent.specs.Lent.{writing, written, written_at}
+use Rattle.std.specs.Prelude.{Err, Ok}
 
 module _ {A : Type 0} (l buf : List A) where
-  pub writing_fits : length l ≤ length buf → writing l buf ≡ Wrote (length l)
+  pub writing_fits : length l ≤ length buf → writing l buf ≡ Ok (length l)
   writing_fits h = rw (le-leb _ _ h)
 
   pub written_fits : length l ≤ length buf → written l buf ≡ l ++ drop (length l) buf
   written_fits h = rw (le-leb _ _ h)
 
-  pub writing_short : length buf < length l → writing l buf ≡ Refused NoRoom
+  pub writing_short : length buf < length l → writing l buf ≡ Err NoRoom
   writing_short h = rw (lt-leb _ _ h)
 
   pub written_short : length buf < length l → written l buf ≡ buf
   written_short h = rw (lt-leb _ _ h)
 
   -- a refusal leaves the buffer as it was, place for place
-  pub refusal_changes_nothing : (r : Refusal) → writing l buf ≡ Refused r → written l buf ≡ buf
+  pub refusal_changes_nothing : (r : Refusal) → writing l buf ≡ Err r → written l buf ≡ buf
   refusal_changes_nothing r = go (leb (length l) (length buf))
     where
-      go : (t : Bool) → cond t (Wrote (length l)) (Refused NoRoom) ≡ Refused r → cond t (l ++ drop (length l) buf) buf ≡ buf
+      go : (t : Bool) → cond t (Ok (length l)) (Err NoRoom) ≡ Err r → cond t (l ++ drop (length l) buf) buf ≡ buf
       go true e = absurd (let z : ◌≡◌ {A = ℕ} 0 1 = cc in omega arith)
       go false e = refl
 
   -- an accepted writing answers the count of what stands at the start afterwards, and what stands behind it stays
-  pub accepted_changes_only_these : (n : ℕ) → writing l buf ≡ Wrote n → (take n (written l buf) ≡ l) × (drop n (written l buf) ≡ drop n buf)
+  pub accepted_changes_only_these : (n : ℕ) → writing l buf ≡ Ok n → (take n (written l buf) ≡ l) × (drop n (written l buf) ≡ drop n buf)
   accepted_changes_only_these n = go (leb (length l) (length buf))
     where
-      go : (t : Bool) → cond t (Wrote (length l)) (Refused NoRoom) ≡ Wrote n
+      go : (t : Bool) → cond t (Ok (length l)) (Err NoRoom) ≡ Ok n
           → (take n (cond t (l ++ drop (length l) buf) buf) ≡ l) × (drop n (cond t (l ++ drop (length l) buf) buf) ≡ drop n buf)
       go true e =
           let count : length l ≡ n = cc in
@@ -47,7 +47,7 @@ module _ {A : Type 0} (l buf : List A) where
       go false e = absurd (let z : ◌≡◌ {A = ℕ} 0 1 = cc in omega arith)
 
   -- it answers how much was written, which had room
-  pub accepted_fits : (n : ℕ) → writing l buf ≡ Wrote n → (n ≡ length l) × (n ≤ length buf)
+  pub accepted_fits : (n : ℕ) → writing l buf ≡ Ok n → (n ≡ length l) × (n ≤ length buf)
   accepted_fits n e = elim (dec_le (length l) (length buf)) [
     | yes h ↦ let count : length l ≡ n = cc (writing_fits h) in (sym count, omega arith)
     | no h ↦ absurd (let z : ◌≡◌ {A = ℕ} 0 1 = cc (writing_short (omega arith)) in omega arith)

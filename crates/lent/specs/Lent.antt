@@ -1,14 +1,17 @@
 -- 01, "Schedule bytes and listing": the writer changes only what it writes, from the start of the lent part; what stands after it stays.
 -- Refusal 13 (NoRoom): the buffer is too short, and nothing changes.
-use Rattle.std.specs.Prelude.{ℕ, ◌+◌, cond, List, ◌++◌, leb, length, take, drop}
+use Rattle.std.specs.Prelude.{ℕ, ◌+◌, cond, List, ◌++◌, leb, length, take, drop, Result, Ok, Err}
+use Rattle.refusal.specs.declared.Refusal.{Refusal}
 use Rattle.refusal.specs.declared.Refusal.TheVariants.{NoRoom}
-use Rattle.lent.specs.declared.Writing.{Writing}
-use Rattle.lent.specs.declared.Writing.TheVariants.{Wrote, Refused}
+
+-- the count of places written, from the buffer's start, or why nothing was
+abbrev pub Writing : Type 0
+Writing = Result ℕ Refusal
 
 module _ {A : Type 0} where
   -- what is written, into a buffer: the answer
   abbrev pub writing : List A → List A → Writing
-  writing l buf = cond (leb (length l) (length buf)) (Wrote (length l)) (Refused NoRoom)
+  writing l buf = cond (leb (length l) (length buf)) (Ok (length l)) (Err NoRoom)
 
   -- and the buffer afterwards
   abbrev pub written : List A → List A → List A

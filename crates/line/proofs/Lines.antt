@@ -6,13 +6,14 @@ use native.Mathlib.Omega.{arith}
 use lib.ListN.{length, take, replicate}
 use Rattle.lent.specs.Lent.{written_at}
 use Rattle.lent.proofs.Pieces.{taken_at_start}
-use Rattle.answer.specs.declared.Answer.{Answer}
-use Rattle.answer.specs.declared.Verdict.{Verdict}
+use Rattle.answer.specs.Answer.{AnswerOrRefusal}
 use Rattle.machine.specs.declared.Machine.{Machine}
 use Rattle.line.specs.declared.Line.{Line}
 use Rattle.line.specs.Text.{first_text, entry_text}
 use Rattle.line.specs.Line.{line_of}
 use Rattle.line.proofs.Lengths.{first_few, entry_few}
+use Rattle.std.specs.Prelude.{Result}
+use Rattle.refusal.specs.declared.Refusal.{Refusal}
 
 -- as the contract of what puts the text says it
 pub line_made : (text : List ℕ) {bytes : List ℕ} {count : ℕ} → (count ≡ length text) × (bytes ≡ written_at 0 text (replicate 64 0))
@@ -32,8 +33,8 @@ pub line_holds_its_text : (text : List ℕ) → length text ≤ 64 → Holds (li
 unfolding line_of
 line_holds_its_text text fits = taken_at_start text (replicate 64 0) fits refl refl
 
-pub first_line_holds_its_text : (v : Verdict) (m : Machine) → Holds (line_of (first_text v m)) (first_text v m)
-first_line_holds_its_text v m = line_holds_its_text (first_text v m) (omega (arith, first_few v m))
+pub first_line_holds_its_text : (made : Result Machine Refusal) → Holds (line_of (first_text made)) (first_text made)
+first_line_holds_its_text made = line_holds_its_text (first_text made) (omega (arith, first_few made))
 
-pub entry_line_holds_its_text : (place : ℕ) (a : Answer) (steps depth : ℕ) → Holds (line_of (entry_text place a steps depth)) (entry_text place a steps depth)
+pub entry_line_holds_its_text : (place : ℕ) (a : AnswerOrRefusal) (steps depth : ℕ) → Holds (line_of (entry_text place a steps depth)) (entry_text place a steps depth)
 entry_line_holds_its_text place a steps depth = line_holds_its_text (entry_text place a steps depth) (omega (arith, entry_few place a steps depth))

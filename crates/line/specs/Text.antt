@@ -1,11 +1,8 @@
 -- 01, "Schedule bytes and listing": the lines of a listing, as bytes. Every line ends with a line end (10); a blank (32) stands before each further part of a line.
-use Rattle.std.specs.Prelude.{ℕ, zero, suc, ◌+◌, ◌/◌, ◌%◌, cond, List, [], ◌∷◌, ◌++◌, ltb}
+use Rattle.std.specs.Prelude.{ℕ, zero, suc, ◌+◌, ◌/◌, ◌%◌, cond, List, [], ◌∷◌, ◌++◌, ltb, Result, Ok, Err}
 use Rattle.refusal.specs.declared.Refusal.{Refusal}
 use Rattle.refusal.specs.Numbers.{number_of}
-use Rattle.answer.specs.declared.Answer.{Answer}
-use Rattle.answer.specs.declared.Verdict.{Verdict}
-use Rattle.answer.specs.declared.Verdict.TheVariants.{Accepted, Refused}
-use Rattle.answer.specs.Answer.{word, value}
+use Rattle.answer.specs.Answer.{AnswerOrRefusal, word, value}
 use Rattle.machine.specs.declared.Machine.{Machine}
 
 -- a number's decimal digits, the highest first, where k may stand before the last one
@@ -25,14 +22,14 @@ unfoldable pub fields : List ℕ → List ℕ
 fields [] = []
 fields (n ∷ ns) = field n ++ fields ns
 
-abbrev pub word_field : Answer → List ℕ
+abbrev pub word_field : AnswerOrRefusal → List ℕ
 word_field a = 32 ∷ word a
 
 abbrev pub line_end : List ℕ
 line_end = 10 ∷ []
 
 -- one line per entry with place from 0, answer word, value (0 where none), steps taken, depth after the entry
-unfoldable pub entry_text : ℕ → Answer → ℕ → ℕ → List ℕ
+unfoldable pub entry_text : ℕ → AnswerOrRefusal → ℕ → ℕ → List ℕ
 entry_text place a steps depth = decimal place ++ (word_field a ++ (field (value a) ++ (field steps ++ (field depth ++ line_end))))
 
 -- `bq`, threads, nodes
@@ -44,9 +41,9 @@ unfoldable pub refused_text : Refusal → List ℕ
 refused_text r = (114 ∷ 101 ∷ 102 ∷ 117 ∷ 115 ∷ 101 ∷ 100 ∷ []) ++ (field (number_of r) ++ line_end)
 
 -- the first line, by whether the set-up is accepted
-abbrev pub first_text : Verdict → Machine → List ℕ
-first_text Accepted m = set_up_text m.threads m.nodes
-first_text (Refused r) m = refused_text r
+abbrev pub first_text : Result Machine Refusal → List ℕ
+first_text (Ok m) = set_up_text m.threads m.nodes
+first_text (Err r) = refused_text r
 
 -- last `queue` and the items, oldest first
 unfoldable pub queue_text : List ℕ → List ℕ

@@ -3,9 +3,10 @@ use Rattle.std.proofs.Common.{◌≡◌, ℕ, zero, suc, ◌+◌, ◌-◌, ◌*�
 use Rattle.lent.specs.Lent.{written_at, written}
 use Rattle.lent.proofs.Laws.{written_fits, length-written_at, taken_of_written_at, left_of_written_at}
 use Rattle.listing.specs.declared.Listing.{Listing}
-use Rattle.listing.specs.declared.Lines.{Lines}
-use Rattle.listing.specs.Pieces.{Piece, told, next_line, lines}
-use Rattle.listing.proofs.Telling.{Tells, next_line_few}
+use Rattle.line.specs.declared.Line.{Line}
+use Rattle.line.specs.Line.{line_of}
+use Rattle.listing.specs.Pieces.{Piece, next_line, lines}
+use Rattle.listing.proofs.Telling.{next_line_few, next_counts, next_put}
 
 -- the laws of `lines`
 pub no_more_lines : (n : ℕ) (s : List ℕ) (l : Listing) → l.going ≡ false → lines n s l ≡ record { text = []; after = l }
@@ -26,9 +27,6 @@ pub record Telling (n : ℕ) (s : List ℕ) (from : Listing) (out₀ out : List 
   pub room : at + 64 * left ≤ length out
   pub behind : drop at out ≡ drop at out₀
   pub length_kept : length out ≡ length out₀
-
-pub begins : (n : ℕ) (s : List ℕ) (from : Listing) (out : List ℕ) → n ≡ length out / 64 → Telling n s from out out from 0 n
-begins n s from out e = record { text = refl; after = refl; room = omega arith; behind = refl; length_kept = refl }
 
 module _ {n : ℕ} {s : List ℕ} {from : Listing} {out₀ out : List ℕ} {l : Listing} {at left : ℕ} (t : Telling n s from out₀ out l at left) where
   -- the next line
@@ -54,9 +52,15 @@ module _ {n : ℕ} {s : List ℕ} {from : Listing} {out₀ out : List ℕ} {l : 
         length_kept = kept ∙ t.length_kept;
       }
 
-  pub goes_on : {r : Lines} {last : List ℕ} → 0 < left → l.going ≡ true → Tells (next_line s l) at out r last → Telling n s from out₀ last r.listing (at + r.count) (left - 1)
-  goes_on {r} {last} h g tells =
-      subst (λ (x : Lines). Telling n s from out₀ last x.listing (at + x.count) (left - 1)) (sym tells.0) (line_told h g tells.1)
+  pub goes_on : {u : Listing} {line : Line} {last : List ℕ} {rest : ℕ} → left ≡ suc rest → l.going ≡ true
+      → line ≡ line_of (next_line s l).text → u ≡ (next_line s l).after → last ≡ written_at at (take line.count line.bytes) out
+      → Telling n s from out₀ last u (at + line.count) rest
+  goes_on {u} {line} {last} {rest} h g e f put =
+      let one : left - 1 ≡ rest = omega (arith, h) in
+      let told = line_told (omega (arith, h)) g (next_put s l e at out put) in
+      subst (λ (x : Listing). Telling n s from out₀ last x (at + line.count) rest) (sym f)
+      (subst (λ (k : ℕ). Telling n s from out₀ last (next_line s l).after (at + k) rest) (sym (next_counts s l e))
+      (subst (λ (k : ℕ). Telling n s from out₀ last (next_line s l).after (at + length (next_line s l).text) k) one told))
 
   -- no entry is left
   pub stops : l.going ≡ false → Telling n s from out₀ out l at 0
@@ -71,15 +75,18 @@ module _ {n : ℕ} {s : List ℕ} {from : Listing} {out₀ out : List ℕ} {l : 
       }
 
   -- all are told
-  pub ends : left ≡ 0 → (record { listing = l; count = at } ≡ told (lines n s from)) × (out ≡ written (lines n s from).text out₀)
+  pub ends : left ≡ 0 → (at ≡ length (lines n s from).text) × ((l ≡ (lines n s from).after) × (out ≡ written (lines n s from).text out₀))
   unfolding lines
   ends z =
       let none : lines left s l ≡ record { text = []; after = l } = ap (λ (k : ℕ). lines k s l) z in
       let text = t.text ∙ ap (λ (p : Piece). take at out ++ p.text) none ∙ append-nil (take at out) in
       let count : length (lines n s from).text ≡ at = ap length text ∙ length-take-le at out (omega (arith, t.room)) in
       let after = t.after ∙ ap (λ (p : Piece). p.after) none in (
-        ap₂ (λ (x : Listing) (k : ℕ). record { listing = x; count = k }) (sym after) (sym count),
-        sym (take-append-drop at out)
-            ∙ ap₂ (λ (x y : List ℕ). x ++ y) (sym text) (t.behind ∙ ap (λ (k : ℕ). drop k out₀) (sym count))
-            ∙ sym (written_fits (lines n s from).text out₀ (omega (arith, count, t.room, t.length_kept))),
+        sym count,
+        (
+          sym after,
+          sym (take-append-drop at out)
+              ∙ ap₂ (λ (x y : List ℕ). x ++ y) (sym text) (t.behind ∙ ap (λ (k : ℕ). drop k out₀) (sym count))
+              ∙ sym (written_fits (lines n s from).text out₀ (omega (arith, count, t.room, t.length_kept))),
+        ),
       )

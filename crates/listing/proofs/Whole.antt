@@ -3,12 +3,7 @@
 use Rattle.std.proofs.Common.{◌≡◌, ℕ, zero, suc, ◌+◌, ◌%◌, ◌^◌, ◌<◌, ◌≤◌, Bool, true, false, List, [], ◌++◌, length, sym, refl, ap, ◌∙◌, ap₂, append_assoc, append-nil, arith, length-take}
 use Rattle.refusal.specs.declared.Refusal.{Refusal}
 use Rattle.entry.specs.declared.Entry.{Entry}
-use Rattle.answer.specs.declared.Verdict.TheVariants.{Accepted, Refused}
-use Rattle.schedule.specs.declared.read.SetUpReading.{SetUpReading}
-use Rattle.schedule.specs.declared.read.SetUpReading.TheVariants as setup
-use Rattle.schedule.specs.declared.read.EntryReading.{EntryReading}
-use Rattle.schedule.specs.declared.read.EntryReading.TheVariants as entry
-use Rattle.schedule.specs.Read.{set_up_of, entry_at}
+use Rattle.schedule.specs.Read.{set_up_of, entry_at, EntryReading, SetUpReading, an_entry}
 use Rattle.schedule.specs.Schedule.{Entries, go_on, entries_up_to, entries_from}
 use Rattle.schedule.proofs.Within.{entry_within}
 use Rattle.schedule.proofs.Endings.{bound_not_met}
@@ -18,6 +13,7 @@ use Rattle.listing.specs.declared.Listing.{Listing}
 use Rattle.listing.specs.Listing.{entry_lines, after_set_up, counted, listing}
 use Rattle.listing.specs.Pieces.{Piece, opened, opened_by, beginning, first_line, last_line, stopped, by_reading, entered, next_line, before, lines}
 use Rattle.listing.proofs.Blocks.{no_more_lines}
+use Rattle.std.specs.Prelude.{Err, None, Ok, Some}
 
 together : (p q r : Piece) → before p (before q r) ≡ before (before p q) r
 together p q r = ap (λ (t : List ℕ). record { text = t; after = r.after }) (sym (append_assoc p.text q.text r.text))
@@ -65,9 +61,9 @@ ended_behind n s l rest =
     (stays_stopped (suc n) s l)
   where
     last : (x : EntryReading) → entry_at s l.from ≡ x → (lines n s (by_reading x l).after).after.going ≡ false
-    last entry.End q = stays_stopped n s (stopped l) refl
-    last (entry.Refused f) q = stays_stopped n s (stopped l) refl
-    last (entry.Entry e k) q = rest e k (entry_within s l.from e k q)
+    last None q = stays_stopped n s (stopped l) refl
+    last (Some (Err f)) q = stays_stopped n s (stopped l) refl
+    last (Some (Ok read)) q = rest read.entry read.count (entry_within s l.from read.entry read.count q)
 
 -- every entry takes a byte at least, so one line more than there are bytes left tells them all
 pub enough_lines : (n : ℕ) (s : List ℕ) (l : Listing) → length s ≤ n + l.from → (lines (suc n) s l).after.going ≡ false
@@ -102,7 +98,7 @@ module _ (s : List ℕ) (short : length s < 2 ^ 32) where
   -- an entry's line, and the lines behind it
   entry_told : (n : ℕ) (l : Listing) (e : Entry) (k : ℕ) → l.place ≤ l.from → (0 < k) × (l.from + k ≤ length s)
       → closed (lines n s (entered l e k).after) ≡ told_from s (entered l e k).after
-      → closed (before (entered l e k) (lines n s (entered l e k).after)) ≡ told_by l (go_on (entry.Entry e k) (λ i. entries_up_to (length s) s (l.from + i)))
+      → closed (before (entered l e k) (lines n s (entered l e k).after)) ≡ told_by l (go_on (an_entry e k) (λ i. entries_up_to (length s) s (l.from + i)))
   unfolding closed told_from told_by entry_lines
   entry_told n l e k p w h =
       let next = (entered l e k).after in
@@ -117,9 +113,11 @@ module _ (s : List ℕ) (short : length s < 2 ^ 32) where
       → ((k : Listing) → k.going ≡ true → k.place ≤ k.from → (lines n s k).after.going ≡ false → closed (lines n s k) ≡ told_from s k)
       → closed (before (by_reading x l) (lines n s (by_reading x l).after)) ≡ told_by l (go_on x (λ i. entries_up_to (length s) s (l.from + i)))
   unfolding closed told_by entry_lines
-  told_step n l entry.End q p e rest = none_left n s (by_reading entry.End l) refl
-  told_step n l (entry.Refused r) q p e rest = none_left n s (by_reading (entry.Refused r) l) refl
-  told_step n l (entry.Entry x k) q p e rest =
+  told_step n l None q p e rest = none_left n s (by_reading None l) refl
+  told_step n l (Some (Err r)) q p e rest = none_left n s (by_reading (Some (Err r)) l) refl
+  told_step n l (Some (Ok read)) q p e rest =
+      let x = read.entry in
+      let k = read.count in
       let w = entry_within s l.from x k q in
       entry_told n l x k p w (rest (entered l x k).after refl (omega (arith, w.0, w.1)) e)
 
@@ -134,24 +132,28 @@ module _ (s : List ℕ) (short : length s < 2 ^ 32) where
       ∙ sym (ap (told_by l) (entries_by l.from x refl))
 
   -- from the set-up on
-  whole : (n : ℕ) (x : SetUpReading) → (opened_by x).verdict ≡ Accepted → (lines n s (opened_by x).listing).after.going ≡ false
-      → first_line (opened_by x) ++ closed (lines n s (opened_by x).listing) ≡ after_set_up s x
+  whole : (n : ℕ) (x : SetUpReading) (l : Listing) → opened_by x ≡ Ok l → (lines n s l).after.going ≡ false
+      → first_line (opened_by x) ++ closed (lines n s l) ≡ after_set_up s x
   unfolding told_from
-  whole n (setup.Refused r) a e = absurd (let z : ◌≡◌ {A = ℕ} 0 1 = cc in omega arith)
-  whole n (setup.SetUp threads nodes next) a e =
-      ap (λ (t : List ℕ). set_up_text threads nodes ++ t) (lines_are_entries n (beginning (fresh_machine threads nodes) next) refl (omega arith) e)
+  whole n (Err r) l a e = absurd (let z : ◌≡◌ {A = ℕ} 0 1 = cc in omega arith)
+  whole n (Ok up) l a e =
+      let begin = beginning (fresh_machine up.threads up.nodes) up.next in
+      let same : begin ≡ l = cc in
+      ap (λ (t : List ℕ). set_up_text up.threads up.nodes ++ t)
+      (ap (λ (k : Listing). closed (lines n s k)) (sym same)
+      ∙ lines_are_entries n begin refl (omega arith) (ap (λ (k : Listing). (lines n s k).after.going) same ∙ e))
 
-refused_whole : (s : List ℕ) (r : Refusal) (x : SetUpReading) → (opened_by x).verdict ≡ Refused r → first_line (opened_by x) ≡ after_set_up s x
-refused_whole s r (setup.Refused q) a = refl
-refused_whole s r (setup.SetUp threads nodes next) a = absurd (let z : ◌≡◌ {A = ℕ} 0 1 = cc in omega arith)
+refused_whole : (s : List ℕ) (r : Refusal) (x : SetUpReading) → opened_by x ≡ Err r → first_line (opened_by x) ≡ after_set_up s x
+refused_whole s r (Err q) a = refl
+refused_whole s r (Ok up) a = absurd (let z : ◌≡◌ {A = ℕ} 0 1 = cc in omega arith)
 
 -- the first line, the entries' lines in blocks until no entry is left, and the last line
-pub pieces_are_the_listing : (s : List ℕ) (n : ℕ) → (opened s).verdict ≡ Accepted → (lines n (counted s) (opened s).listing).after.going ≡ false
-    → first_line (opened s) ++ ((lines n (counted s) (opened s).listing).text ++ last_line (lines n (counted s) (opened s).listing).after) ≡ listing s
+pub pieces_are_the_listing : (s : List ℕ) (n : ℕ) (l : Listing) → opened s ≡ Ok l → (lines n (counted s) l).after.going ≡ false
+    → first_line (opened s) ++ ((lines n (counted s) l).text ++ last_line (lines n (counted s) l).after) ≡ listing s
 unfolding listing closed
-pieces_are_the_listing s n a e = whole (counted s) (omega (arith, length-take 65536 s)) n (set_up_of (counted s)) a e
+pieces_are_the_listing s n l a e = whole (counted s) (omega (arith, length-take 65536 s)) n (set_up_of (counted s)) l a e
 
 -- a refusal at set-up prints only its line
-pub refused_set_up_is_the_listing : (s : List ℕ) (r : Refusal) → (opened s).verdict ≡ Refused r → first_line (opened s) ≡ listing s
+pub refused_set_up_is_the_listing : (s : List ℕ) (r : Refusal) → opened s ≡ Err r → first_line (opened s) ≡ listing s
 unfolding listing
 refused_set_up_is_the_listing s r a = refused_whole (counted s) r (set_up_of (counted s)) a

@@ -1,10 +1,7 @@
 -- 01, "Schedule bytes and listing": what the listing program prints for the bytes that it is given.
-use Rattle.std.specs.Prelude.{ℕ, ◌+◌, List, [], ◌∷◌, ◌++◌, take}
+use Rattle.std.specs.Prelude.{ℕ, ◌+◌, List, [], ◌∷◌, ◌++◌, take, Err, Ok}
 use Rattle.entry.specs.declared.Entry.{Entry}
-use Rattle.answer.specs.declared.Answer.TheVariants.{Refused}
-use Rattle.schedule.specs.declared.read.SetUpReading.{SetUpReading}
-use Rattle.schedule.specs.declared.read.SetUpReading.TheVariants as setup
-use Rattle.schedule.specs.Read.{set_up_of}
+use Rattle.schedule.specs.Read.{set_up_of, SetUpReading}
 use Rattle.schedule.specs.Schedule.{Ending, ended, refused, Entries, entries_from}
 use Rattle.machine.specs.declared.Machine.{Machine}
 use Rattle.machine.specs.declared.Told.{Told}
@@ -20,7 +17,7 @@ entry_line place told = entry_text place told.answer told.steps (depth told.mach
 -- refusals 10 to 12 get such a line too and end the entries; the depth as it stands
 abbrev pub ending_line : Machine → ℕ → Ending → List ℕ
 ending_line m place ended = []
-ending_line m place (refused r) = entry_text place (Refused r) 0 (depth m)
+ending_line m place (refused r) = entry_text place (Err r) 0 (depth m)
 
 -- one line per entry, then the `queue` line
 unfoldable pub entry_lines : Machine → ℕ → List Entry → Ending → List ℕ
@@ -31,8 +28,8 @@ abbrev pub all_lines : Machine → Entries → List ℕ
 all_lines m es = entry_lines m 0 es.entries es.ending
 
 abbrev pub after_set_up : List ℕ → SetUpReading → List ℕ
-after_set_up s (setup.Refused r) = refused_text r
-after_set_up s (setup.SetUp threads nodes next) = set_up_text threads nodes ++ all_lines (fresh_machine threads nodes) (entries_from s next)
+after_set_up s (Err r) = refused_text r
+after_set_up s (Ok up) = set_up_text up.threads up.nodes ++ all_lines (fresh_machine up.threads up.nodes) (entries_from s up.next)
 
 -- of longer input only the first 65,536 bytes count
 abbrev pub counted : List ℕ → List ℕ

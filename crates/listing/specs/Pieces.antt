@@ -1,28 +1,19 @@
 -- A listing told piece by piece: what each call writes, and how far the schedule has then been told.
 -- The entries' places are 32 bits wide; no counted input has as many.
-use Rattle.std.specs.Prelude.{ℕ, zero, suc, ◌+◌, ◌%◌, ◌^◌, true, false, cond, List, [], ◌++◌, length}
+use Rattle.std.specs.Prelude.{ℕ, zero, suc, ◌+◌, ◌%◌, ◌^◌, true, false, cond, List, [], ◌++◌, length, None, Some, Result, Ok, Err}
 use Rattle.refusal.specs.declared.Refusal.{Refusal}
 use Rattle.entry.specs.declared.Entry.{Entry}
-use Rattle.answer.specs.declared.Answer.TheVariants as answer
-use Rattle.answer.specs.declared.Verdict.{Verdict}
-use Rattle.answer.specs.declared.Verdict.TheVariants.{Accepted, Refused}
-use Rattle.schedule.specs.declared.read.SetUpReading.{SetUpReading}
-use Rattle.schedule.specs.declared.read.SetUpReading.TheVariants as setup
-use Rattle.schedule.specs.declared.read.EntryReading.{EntryReading}
-use Rattle.schedule.specs.declared.read.EntryReading.TheVariants as entry
-use Rattle.schedule.specs.Read.{set_up_of, entry_at}
+use Rattle.schedule.specs.Read.{set_up_of, entry_at, EntryReading, SetUpReading}
 use Rattle.machine.specs.declared.Machine.{Machine}
 use Rattle.machine.specs.declared.Told.{Told}
 use Rattle.machine.specs.State.{fresh_machine}
 use Rattle.machine.specs.Entries.{apply}
 use Rattle.contents.specs.Contents.{contents, depth}
 use Rattle.line.specs.Text.{first_text, entry_text, queue_text}
-use Rattle.line.specs.Line.{line_of}
 use Rattle.listing.specs.declared.Listing.{Listing}
-use Rattle.listing.specs.declared.Opened.{Opened}
 use Rattle.listing.specs.declared.Lines.{Lines}
-use Rattle.listing.specs.declared.Next.{Next}
 use Rattle.listing.specs.Listing.{entry_line, counted}
+use Rattle.refusal.specs.Verdicts.{and_then}
 
 -- some text, and the listing after it
 pub record Piece : Type 0 where
@@ -32,26 +23,19 @@ pub record Piece : Type 0 where
 abbrev pub told : Piece → Lines
 told p = record { listing = p.after; count = length p.text }
 
--- where the text is one line
-abbrev pub next : Piece → Next
-next p = record { line = line_of p.text; listing = p.after }
-
 -- the set-up
 abbrev pub beginning : Machine → ℕ → Listing
 beginning m from = record { machine = m; from = from; place = 0; going = true }
 
-abbrev pub opened_at : Verdict → ℕ → ℕ → ℕ → Opened
-opened_at verdict threads nodes from = record { verdict = verdict; listing = beginning (fresh_machine threads nodes) from }
+abbrev pub opened_by : SetUpReading → Result Listing Refusal
+opened_by reading = and_then reading λ up. Ok (beginning (fresh_machine up.threads up.nodes) up.next)
 
-abbrev pub opened_by : SetUpReading → Opened
-opened_by (setup.Refused r) = opened_at (Refused r) 0 0 0
-opened_by (setup.SetUp threads nodes from) = opened_at Accepted threads nodes from
-
-abbrev pub opened : List ℕ → Opened
+abbrev pub opened : List ℕ → Result Listing Refusal
 opened s = opened_by (set_up_of (counted s))
 
-abbrev pub first_line : Opened → List ℕ
-first_line o = first_text o.verdict o.listing.machine
+abbrev pub first_line : Result Listing Refusal → List ℕ
+first_line (Ok l) = first_text (Ok l.machine)
+first_line (Err r) = first_text (Err r)
 
 -- the next entry's line
 abbrev pub stopped : Listing → Listing
@@ -61,7 +45,7 @@ abbrev pub ended : Listing → Piece
 ended l = record { text = []; after = stopped l }
 
 abbrev pub refused_at : Listing → Refusal → Piece
-refused_at l r = record { text = entry_text l.place (answer.Refused r) 0 (depth l.machine); after = stopped l }
+refused_at l r = record { text = entry_text l.place (Err r) 0 (depth l.machine); after = stopped l }
 
 abbrev pub after_entry : ℕ → ℕ → Told → Piece
 after_entry place from t = record {
@@ -73,9 +57,9 @@ abbrev pub entered : Listing → Entry → ℕ → Piece
 entered l e n = after_entry l.place (l.from + n) (apply l.machine e)
 
 abbrev pub by_reading : EntryReading → Listing → Piece
-by_reading entry.End l = ended l
-by_reading (entry.Refused r) l = refused_at l r
-by_reading (entry.Entry e n) l = entered l e n
+by_reading None l = ended l
+by_reading (Some (Err r)) l = refused_at l r
+by_reading (Some (Ok read)) l = entered l read.entry read.count
 
 unfoldable pub next_line : List ℕ → Listing → Piece
 next_line s l = by_reading (entry_at s l.from) l

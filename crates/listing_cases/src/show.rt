@@ -1,125 +1,77 @@
-// Showing listings. A listing is told in blocks of as many lines as a small buffer has room for, so that a
-// longer one takes several.
-use answer::Verdict;
-use lent::Writing;
-use listing::{Listing, Opened};
-use machine::Machine;
+//! Showing listings. A listing is told in blocks of as many lines as a small buffer has room for, so that a
+//! longer one takes several.
+use listing::Listing;
+use std::io::Write;
+use std::{fmt, io};
 
-// Of the text told so far: its bytes, their sum, and the sum of the sums after each byte, which tells their
-// order too.
-#[derive(Clone, Copy)]
-pub struct Sums {
-    pub count: usize,
-    pub sum: u32,
-    pub order: u32,
+/// Of the text told so far: its bytes, their sum, and the sum of the sums after each byte, which tells their
+/// order too.
+#[derive(Clone, Copy, Default)]
+pub(crate) struct Sums {
+    count: usize,
+    sum: u32,
+    order: u32,
 }
 
-// Tells a schedule and shows its listing, but of the entries only those from a place on, or from the next
-// place on where a block begins: a block has 64 lines.
-pub(crate) fn listing(s: &[u8], shown: u32) -> Sums {
-    let opened = Opened::of(s);
-    let sums = first(opened);
-    let verdict = opened.verdict;
-    match verdict {
-        Verdict::Refused(_) => sums,
-        Verdict::Accepted => {
-            let listing = opened.listing;
-            entries(listing, sums, s, shown)
-        }
+impl fmt::Display for Sums {
+    fn fmt<W: fmt::Write>(&self, f: &mut fmt::Formatter<W>) -> fmt::Result {
+        write!(f, "{} bytes, sums {} {}", self.count, self.sum, self.order)
     }
-}
-
-fn first(opened: Opened) -> Sums {
-    let verdict = opened.verdict;
-    let listing = opened.listing;
-    let machine = listing.machine;
-    let line = line::first(verdict, machine);
-    let bytes = line.bytes;
-    Sums::none().tell_first(&bytes, line.count, true)
-}
-
-// A block tells an entry at least, and an entry takes a byte at least.
-fn entries(opened: Listing, first: Sums, s: &[u8], shown: u32) -> Sums {
-    let mut out = io::buffer();
-    let mut listing = opened;
-    let mut sums = first;
-    let mut left = s.len();
-    while 0 < left {
-        if listing.going {
-            let place = listing.place;
-            let lines = listing.lines(s, &mut out);
-            sums = sums.tell_first(&out, lines.count, shown <= place);
-            listing = lines.listing;
-            left -= 1;
-        } else {
-            left = 0;
-        }
-    }
-    let machine = listing.machine;
-    sums.tell_last(machine)
 }
 
 impl Sums {
-    fn none() -> Sums {
-        Sums {
-            count: 0,
-            sum: 0,
-            order: 0,
+    fn add(&mut self, text: &[u8]) {
+        for byte in text {
+            self.sum = self.sum.wrapping_add(u32::from(*byte));
+            self.order = self.order.wrapping_add(self.sum);
         }
+        self.count = self.count.wrapping_add(text.len());
     }
 
-    // The line of what the queue holds is not longer than the buffer, so it is not refused.
-    fn tell_last(self, machine: Machine) -> Sums {
-        let mut out = io::large_buffer();
-        let writing = line::queue(machine, &mut out);
-        match writing {
-            Writing::Wrote { count } => self.tell_first(&out, count, true),
-            Writing::Refused { refusal: _ } => self,
-        }
-    }
-
-    // The first bytes of a buffer, which has as many.
-    fn tell_first(self, out: &[u8], count: usize, shown: bool) -> Sums {
-        if out.len() < count {
-            return self;
-        }
-        self.tell_text(&out[0..count], shown)
-    }
-
-    fn tell_text(self, text: &[u8], shown: bool) -> Sums {
-        if shown {
-            io::write_all(1, text);
-        }
-        self.with(text)
-    }
-
-    fn with(self, text: &[u8]) -> Sums {
-        let mut sum = self.sum;
-        let mut order = self.order;
-        let mut i = 0;
-        while i < text.len() {
-            sum = std::num::wrapping_add_u32(sum, wide(text[i]));
-            order = std::num::wrapping_add_u32(order, sum);
-            i += 1;
-        }
-        Sums {
-            count: std::num::wrapping_add_usize(self.count, text.len()),
-            sum,
-            order,
-        }
-    }
-
-    pub(crate) fn show(self) {
-        io::write_all(1, b"* ");
-        io::print_decimal(1, self.count as u64);
-        io::write_all(1, b" bytes, sums ");
-        io::print_decimal(1, self.sum as u64);
-        io::write_all(1, b" ");
-        io::print_decimal(1, self.order as u64);
-        io::write_all(1, b"\n");
+    fn tell<W: Write>(&mut self, text: &[u8], shown: bool, out: &mut W) -> io::Result<()> {
+        self.add(text);
+        if shown { out.write_all(text) } else { Ok(()) }
     }
 }
 
-fn wide(byte: u8) -> u32 {
-    byte as u32
+/// Tells a schedule and shows its listing, but of the entries only those from a place on, or from the next
+/// place on where a block begins: a block has 64 lines.
+pub(crate) fn listing<W: Write>(s: &[u8], shown: u32, out: &mut W) -> io::Result<Sums> {
+    let mut sums = Sums::default();
+    let opened = Listing::of(s);
+    let line = line::first(opened.map(|listing| listing.machine));
+    sums.tell(text_of(&line.bytes, line.count), true, out)?;
+    if let Ok(mut listing) = opened {
+        entries(&mut listing, s, shown, &mut sums, out)?;
+    }
+    Ok(sums)
+}
+
+fn text_of(bytes: &[u8], count: usize) -> &[u8] {
+    bytes.get(..count).unwrap_or(b"")
+}
+
+/// A block tells an entry at least, and an entry takes a byte at least; `Listing::tell` and `line::queue` are lent arrays. The line of what the queue holds is not longer than
+/// the buffer, so it is not refused.
+fn entries<W: Write>(
+    listing: &mut Listing,
+    s: &[u8],
+    shown: u32,
+    sums: &mut Sums,
+    out: &mut W,
+) -> io::Result<()> {
+    let mut block = [0u8; 4096];
+    for _ in 0..s.len() {
+        if !listing.going {
+            break;
+        }
+        let place = listing.place;
+        let count = listing.tell(s, &mut block);
+        sums.tell(text_of(&block, count), shown <= place, out)?;
+    }
+    let mut line = [0u8; 8192];
+    match line::queue(listing.machine, &mut line) {
+        Ok(count) => sums.tell(text_of(&line, count), true, out),
+        Err(_) => Ok(()),
+    }
 }

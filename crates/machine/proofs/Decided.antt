@@ -1,14 +1,11 @@
 -- One verdict decides an entry: `apply` is the refusal that refuse's `verdict` gives, or what the accepted entry does. The entries' definitions test
 -- one after the other and start in between; a test that accepts changes nothing, so the first that refuses can be found before.
-use Rattle.std.proofs.Common.{◌≡◌, ℕ, ◌%◌, Bool, true, false, cond, sym, refl, ap, ◌∙◌}
+use Rattle.std.specs.Prelude.{None, Some}
+use Rattle.std.proofs.Common.{◌≡◌, ℕ, ◌%◌, Bool, true, false, cond, refl, ap, ◌∙◌}
 use Rattle.refusal.specs.declared.Refusal.{Refusal}
 use Rattle.refusal.specs.declared.Refusal.TheVariants.{NotOwnFuture}
-use Rattle.row.specs.declared.Row.{Row}
-use Rattle.answer.specs.declared.Outcome.{Outcome}
-use Rattle.answer.specs.declared.Outcome.TheVariants as outcome
+use Rattle.answer.specs.Answer.{Outcome}
 use Rattle.answer.specs.declared.Future.{Future}
-use Rattle.answer.specs.declared.Verdict.{Verdict}
-use Rattle.answer.specs.declared.Verdict.TheVariants.{Accepted, Refused}
 use Rattle.entry.specs.declared.Entry.{Entry}
 use Rattle.entry.specs.declared.Entry.TheVariants.{Enqueue, Dequeue, FutureEnqueue, FutureDequeue, Evaluate, Step, Run}
 use Rattle.entry.specs.Operands.{thread_of, future_of}
@@ -18,13 +15,15 @@ use Rattle.machine.specs.declared.Machine.{Machine}
 use Rattle.machine.specs.declared.Told.{Told}
 use Rattle.machine.specs.State.{row_at, future_at}
 use Rattle.machine.specs.Entries.{refusing, decided, enqueue, dequeue, future_enqueue, future_dequeue, evaluate_waiting, evaluate_own, evaluate_known, evaluate, run, apply, asked, accepted}
+use Rattle.refusal.specs.Verdicts.{Verdict}
+use Rattle.std.specs.Prelude.{Err, Ok}
 
 two_tests : (v w : Verdict) (m : Machine) (x : Told) → decided v m (decided w m x) ≡ decided (first v w) m x
 unfolding decided
-two_tests Accepted w m x = refl
-two_tests (Refused r) w m x = refl
+two_tests (Ok ok) w m x = refl
+two_tests (Err r) w m x = refl
 
-test_before : (b : Bool) (r : Refusal) (w : Verdict) (m : Machine) (x : Told) → cond b (refusing m r) (decided w m x) ≡ decided (cond b (Refused r) w) m x
+test_before : (b : Bool) (r : Refusal) (w : Verdict) (m : Machine) (x : Told) → cond b (refusing m r) (decided w m x) ≡ decided (cond b (Err r) w) m x
 unfolding decided
 test_before true r w m x = refl
 test_before false r w m x = refl
@@ -36,10 +35,8 @@ lacking_at m i = lacking (evaluate_needs (row_at m i)) m.used m.nodes (row_at m 
 -- Evaluate of an own future tests what its batch needs only where it waits
 own_decided : (m : Machine) (i f : ℕ) (o : Outcome) → evaluate_own m i f o ≡ decided (waiting_verdict o (lacking_at m i)) m (asked m i f o)
 unfolding evaluate_own evaluate_waiting decided asked
-own_decided m i f outcome.Waiting = refl
-own_decided m i f outcome.Ok = refl
-own_decided m i f (outcome.Item v) = refl
-own_decided m i f outcome.Empty = refl
+own_decided m i f None = refl
+own_decided m i f (Some result) = refl
 
 known_decided : (m : Machine) (t f : ℕ) (x : Future) → evaluate_known m t f x ≡ decided (own_verdict t f m.used.futures x (lacking_at m (t % 8))) m (asked m (t % 8) (f % 512) x.outcome)
 unfolding evaluate_known
@@ -51,7 +48,7 @@ known_decided m t f x =
 abbrev verdict_on : Machine → Entry → ℕ → ℕ → Verdict
 verdict_on m e t f = verdict e m.threads m.nodes m.used (row_at m t) (future_at m f)
 
-entry_decided : (m : Machine) (e : Entry) → apply m e ≡ decided (verdict_on m e (thread_of e % 8) (future_of e)) m (accepted m (thread_of e % 8) e (future_at m (future_of e)).outcome)
+pub entry_decided : (m : Machine) (e : Entry) → apply m e ≡ decided (verdict_on m e (thread_of e % 8) (future_of e)) m (accepted m (thread_of e % 8) e (future_at m (future_of e)).outcome)
 unfolding apply enqueue dequeue future_enqueue future_dequeue evaluate run verdict accepted
 entry_decided m (Enqueue t v) = refl
 entry_decided m (Dequeue t) = refl
@@ -64,18 +61,3 @@ entry_decided m (Evaluate t f) =
     ∙ two_tests here (own_verdict t f m.used.futures x (lacking_at m (t % 8))) m (asked m (t % 8) (f % 512) x.outcome)
 entry_decided m (Step t) = refl
 entry_decided m (Run t n) = refl
-
--- the code's values by name, in its order: thread and row, future and what it holds, the verdict u on them, which turns out to be d
-pub by_verdict : (m : Machine) (e : Entry) (d : Verdict) {t f : ℕ} {r : Row} {x : Future} {u : Verdict} {z : Told}
-    → t ≡ thread_of e
-    → r ≡ row_at m (t % 8)
-    → f ≡ future_of e
-    → x ≡ future_at m f
-    → u ≡ verdict e m.threads m.nodes m.used r x
-    → u ≡ d
-    → z ≡ decided d m (accepted m (t % 8) e x.outcome)
-    → z ≡ apply m e
-by_verdict m e d {t} {x = x} e1 e2 e3 e4 e5 e6 e7 =
-    e7
-    ∙ ap (λ (w : Verdict). decided w m (accepted m (t % 8) e x.outcome)) (sym e6 ∙ e5)
-    ∙ simp (e4, e3, e2, e1) (sym (entry_decided m e))

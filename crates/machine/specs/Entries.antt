@@ -1,8 +1,7 @@
 -- 01, "Entries": each entry takes the machine and hands back the machine and one answer.
-use Rattle.std.specs.Prelude.{ℕ, ◌%◌, true, false, cond, ◌==◌, slice_set}
+use Rattle.std.specs.Prelude.{ℕ, ◌%◌, cond, ◌==◌, slice_set, Some, None, Ok, Err}
 use Rattle.refusal.specs.declared.Refusal.{Refusal}
 use Rattle.refusal.specs.declared.Refusal.TheVariants.{NotOwnFuture}
-use Rattle.cells.specs.declared.Link.TheVariants.{To}
 use Rattle.place.specs.declared.Place.TheVariants as place
 use Rattle.place.specs.declared.EnqueueStep.TheVariants.{E1}
 use Rattle.place.specs.declared.DequeueStep.TheVariants.{D1}
@@ -11,13 +10,12 @@ use Rattle.place.specs.declared.DequeuesStep.TheVariants.{Q1}
 use Rattle.row.specs.declared.Row.{Row}
 use Rattle.row.specs.Row.{placed, calling, with_enqueue, with_dequeue, request}
 use Rattle.answer.specs.declared.Item.{Item}
-use Rattle.answer.specs.declared.Outcome.{Outcome}
-use Rattle.answer.specs.declared.Outcome.TheVariants as outcome
+use Rattle.answer.specs.Answer.{Outcome}
 use Rattle.answer.specs.declared.Future.{Future}
 use Rattle.answer.specs.declared.Answer.{Answer}
 use Rattle.answer.specs.declared.Answer.TheVariants as answer
-use Rattle.answer.specs.declared.Verdict.{Verdict}
-use Rattle.answer.specs.declared.Verdict.TheVariants.{Accepted, Refused}
+use Rattle.machine.specs.declared.Reply.{Reply}
+use Rattle.answer.specs.declared.Operation.TheVariants as operation
 use Rattle.machine.specs.declared.Told.{Told}
 use Rattle.machine.specs.declared.Machine.{Machine}
 use Rattle.entry.specs.declared.Entry.{Entry}
@@ -29,23 +27,28 @@ use Rattle.machine.specs.HandOut.{hand_out_node, hand_out_future, hand_out_annou
 use Rattle.needs.specs.Needs.{lacking, enqueue_needs, dequeue_needs, future_enqueue_needs, future_dequeue_needs, evaluate_needs}
 use Rattle.refuse.specs.Refusals.{callable, steppable, foreign, call_verdict}
 use Rattle.machine.specs.Steps.{advance}
+use Rattle.refusal.specs.Verdicts.{Verdict}
+
+-- what an entry told, but for the machine
+abbrev pub reply_of : Told → Reply
+reply_of x = record { answer = x.answer; steps = x.steps }
 
 -- only the number is returned, and the machine stays unchanged
 abbrev pub refusing : Machine → Refusal → Told
-refusing m r = record { machine = m; answer = answer.Refused r; steps = 0 }
+refusing m r = record { machine = m; answer = Err r; steps = 0 }
 
 abbrev pub telling : Machine → Answer → Told
-telling m a = record { machine = m; answer = a; steps = 0 }
+telling m a = record { machine = m; answer = Ok a; steps = 0 }
 
 unfoldable pub decided : Verdict → Machine → Told → Told
-decided Accepted m accepted = accepted
-decided (Refused r) m accepted = refusing m r
+decided (Ok ok) m accepted = accepted
+decided (Err r) m accepted = refusing m r
 
 -- a pending enqueue's node stands behind the one before it, where there is one
 unfoldable pub linked_behind : Machine → Row → ℕ → Machine
 linked_behind m r n = record {
   ends = m.ends;
-  links = cond (r.tally.enqueues == 0) m.links (slice_set m.links (r.last % 512) (record { link = To n }));
+  links = cond (r.tally.enqueues == 0) m.links (slice_set m.links (r.last % 512) (Some n));
   announcements = m.announcements;
   items = m.items;
   futures = m.futures;
@@ -58,11 +61,11 @@ linked_behind m r n = record {
 -- a deferred call: a node where needed, a future, a pending place. i is the thread's number.
 unfoldable pub defer_enqueue : Machine → ℕ → Item → Machine
 defer_enqueue m i v =
-    with_row (hand_out_future (linked_behind (hand_out_node m v) (row_at m i) (next_node m.used)) i true) i
+    with_row (hand_out_future (linked_behind (hand_out_node m v) (row_at m i) (next_node m.used)) i operation.Enqueue) i
     (with_enqueue (row_at m i) (next_future m.used) (next_node m.used))
 
 unfoldable pub defer_dequeue : Machine → ℕ → Machine
-defer_dequeue m i = with_row (hand_out_future m i false) i (with_dequeue (row_at m i) (next_future m.used))
+defer_dequeue m i = with_row (hand_out_future m i operation.Dequeue) i (with_dequeue (row_at m i) (next_future m.used))
 
 -- a batch with an enqueue is handed its announcement
 abbrev pub announced : Machine → ℕ → Row → ℕ → Machine
@@ -112,10 +115,8 @@ evaluate_waiting m i f =
     (telling (set_off m i f) answer.Started)
 
 unfoldable pub evaluate_own : Machine → ℕ → ℕ → Outcome → Told
-evaluate_own m i f outcome.Waiting = evaluate_waiting m i f
-evaluate_own m i f outcome.Ok = telling m answer.Ok
-evaluate_own m i f (outcome.Item v) = telling m (answer.Item v)
-evaluate_own m i f outcome.Empty = telling m answer.Empty
+evaluate_own m i f None = evaluate_waiting m i f
+evaluate_own m i f (Some result) = telling m (answer.Ended result)
 
 unfoldable pub evaluate_known : Machine → ℕ → ℕ → Future → Told
 evaluate_known m t f x =
@@ -145,10 +146,8 @@ apply m (Run t n) = run m t n
 -- how the code goes: one verdict (refuse's `verdict`), then what an accepted entry does, which can't refuse; proofs/Decided.antt shows that this
 -- is `apply`. i is the thread's number, o the outcome of the future that Evaluate names.
 unfoldable pub asked : Machine → ℕ → ℕ → Outcome → Told
-asked m i f outcome.Waiting = telling (set_off m i f) answer.Started
-asked m i f outcome.Ok = telling m answer.Ok
-asked m i f (outcome.Item v) = telling m (answer.Item v)
-asked m i f outcome.Empty = telling m answer.Empty
+asked m i f None = telling (set_off m i f) answer.Started
+asked m i f (Some result) = telling m (answer.Ended result)
 
 unfoldable pub accepted : Machine → ℕ → Entry → Outcome → Told
 accepted m i (Enqueue t v) o = telling (start_enqueue m i (record { value = v })) answer.Started

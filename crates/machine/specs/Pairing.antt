@@ -1,12 +1,11 @@
 -- Pairing of results with futures: listings 6 and 8 of 002, in the step that ends the call.
-use Rattle.std.specs.Prelude.{ℕ, zero, suc, ◌+◌, ◌%◌, false, List, slice_index, slice_index_or, slice_set}
-use Rattle.cells.specs.declared.Cell.{Cell}
-use Rattle.cells.specs.declared.Link.TheVariants.{To}
-use Rattle.memory.specs.Memory.{cell_at}
+use Rattle.std.specs.Prelude.{ℕ, zero, suc, ◌+◌, ◌%◌, false, List, slice_index, slice_index_or, slice_set, Some, Ok}
+use Rattle.cells.specs.Links.{Link}
+use Rattle.memory.specs.Memory.{link_at}
 use Rattle.row.specs.declared.Row.{Row}
 use Rattle.row.specs.Row.{cleared}
 use Rattle.answer.specs.declared.Item.{Item}
-use Rattle.answer.specs.declared.Outcome.{Outcome}
+use Rattle.answer.specs.Answer.{Outcome, answered}
 use Rattle.answer.specs.declared.Future.{Future}
 use Rattle.machine.specs.declared.Told.{Told}
 use Rattle.machine.specs.declared.Machine.{Machine}
@@ -14,26 +13,25 @@ use Rattle.pairing.specs.declared.Supply.TheVariants.{Batch, Dequeues}
 use Rattle.pairing.specs.declared.Cursor.{Cursor}
 use Rattle.pairing.specs.declared.Paid.{Paid}
 use Rattle.pairing.specs.declared.Around.{Around}
-use Rattle.answer.specs.Answer.{answered}
 use Rattle.pairing.specs.Pairing.{node_behind, next_of, pay}
 use Rattle.machine.specs.State.{row_at, with_row, with_futures, future_at, item_in, no_future}
 
 -- what a turn reads: links and items as they are, the batch's last node
-abbrev pub around : List Cell → List Item → ℕ → Cursor → Around
+abbrev pub around : List Link → List Item → ℕ → Cursor → Around
 around links items last c = record {
-  behind = (cell_at links c.at).link;
-  node = node_behind (cell_at links c.at).link c.at;
-  item = item_in items (node_behind (cell_at links c.at).link c.at);
-  behind_next = (cell_at links (next_of c.supply)).link;
+  behind = link_at links c.at;
+  node = node_behind (link_at links c.at) c.at;
+  item = item_in items (node_behind (link_at links c.at) c.at);
+  behind_next = link_at links (next_of c.supply);
   last = last;
 }
 
 abbrev pub done : Future → Outcome → Future
-done f o = record { owner = f.owner; enqueue = f.enqueue; outcome = o }
+done f o = record { owner = f.owner; operation = f.operation; outcome = o }
 
 -- the call of one future
-abbrev pub paid_to : List Cell → List Item → ℕ → Cursor → Future → Paid
-paid_to links items last c f = pay c.at c.supply f.enqueue (around links items last c)
+abbrev pub paid_to : List Link → List Item → ℕ → Cursor → Future → Paid
+paid_to links items last c f = pay c.at c.supply f.operation (around links items last c)
 
 -- the k-th pending call's future; and the futures once it is done
 abbrev pub pending_future : List ℕ → ℕ → List Future → Future
@@ -43,11 +41,11 @@ abbrev pub with_outcome : List ℕ → ℕ → List Future → Outcome → List 
 with_outcome pending k fs o = slice_set fs (slice_index pending (k % 32) % 512) (done (pending_future pending k fs) o)
 
 -- the futures of n pending calls from the k-th on become done, in calling order
-unfoldable pub pair_from : ℕ → List Cell → List Item → ℕ → List ℕ → ℕ → List Future → Cursor → List Future
+unfoldable pub pair_from : ℕ → List Link → List Item → ℕ → List ℕ → ℕ → List Future → Cursor → List Future
 pair_from zero links items last pending k fs c = fs
 pair_from (suc n) links items last pending k fs c =
     pair_from n links items last pending (k + 1)
-    (with_outcome pending k fs (paid_to links items last c (pending_future pending k fs)).outcome)
+    (with_outcome pending k fs (Some (paid_to links items last c (pending_future pending k fs)).result))
     (paid_to links items last c (pending_future pending k fs)).cursor
 
 -- the futures of a row's pending calls
@@ -61,13 +59,13 @@ pairing m i c = pairing_of m (row_at m i) c
 unfoldable pub settled : Machine → ℕ → ℕ → Cursor → Told
 settled m i steps c = record {
   machine = with_row (pairing m i c) i (cleared (row_at m i));
-  answer = answered (future_at (pairing m i c) (row_at m i).future).outcome;
+  answer = Ok (answered (future_at (pairing m i c) (row_at m i).future).outcome);
   steps = steps;
 }
 
 -- where the two pairings begin: listing 6 at the old head, with the batch's first node; listing 8 at the head that was read, with the nodes taken
 abbrev pub batch_cursor : ℕ → ℕ → Cursor
-batch_cursor from first = record { at = from; supply = Batch (To first) false }
+batch_cursor from first = record { at = from; supply = Batch (Some first) false }
 
 abbrev pub dequeues_cursor : ℕ → ℕ → Cursor
 dequeues_cursor from taken = record { at = from; supply = Dequeues taken }

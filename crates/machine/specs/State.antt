@@ -1,21 +1,21 @@
 -- 01, "What the machine is": the machine's parts, and the fresh machine.
-use Rattle.std.specs.Prelude.{ℕ, ◌%◌, false, List, replicate, slice_index_or, slice_set}
+use Rattle.std.specs.Prelude.{ℕ, ◌%◌, List, replicate, slice_index_or, slice_set, None}
 use Rattle.cells.specs.declared.Ends.{Ends}
 use Rattle.cells.specs.declared.Head.TheVariants.{Plain}
-use Rattle.memory.specs.Memory.{Memory, no_cell, no_announcement}
+use Rattle.memory.specs.Memory.{Memory, no_announcement}
 use Rattle.cells.specs.Ends.{no_front, no_tail}
 use Rattle.row.specs.declared.Row.{Row}
 use Rattle.row.specs.Row.{fresh_row, no_row}
 use Rattle.answer.specs.declared.Item.{Item}
 use Rattle.answer.specs.declared.Future.{Future}
-use Rattle.answer.specs.declared.Outcome.TheVariants.{Waiting}
+use Rattle.answer.specs.declared.Operation.TheVariants.{Dequeue}
 use Rattle.machine.specs.declared.Machine.{Machine}
 
 abbrev pub no_item : Item
 no_item = record { value = 0 }
 
 abbrev pub no_future : Future
-no_future = record { owner = 0; enqueue = false; outcome = Waiting }
+no_future = record { owner = 0; operation = Dequeue; outcome = None }
 
 abbrev pub ends_at_the_dummy : Ends
 ends_at_the_dummy = record { head = Plain no_front; tail = no_tail }
@@ -24,7 +24,7 @@ ends_at_the_dummy = record { head = Plain no_front; tail = no_tail }
 abbrev pub fresh_machine : ℕ → ℕ → Machine
 fresh_machine threads nodes = record {
   ends = ends_at_the_dummy;
-  links = replicate 512 no_cell;
+  links = replicate 512 None;
   announcements = replicate 64 no_announcement;
   items = replicate 512 no_item;
   futures = replicate 512 no_future;

@@ -2,66 +2,51 @@
 // tested before.
 ghost use Rattle.std.specs.Prelude.{◌≡◌};
 ghost use Rattle.machine.specs.HandOut.{hand_out_node, hand_out_future, hand_out_announcement};
+ghost use Rattle.next.specs.Next.{next_node, next_future, next_announcement};
 
 use crate::Machine;
-use answer::{Future, Item, Outcome};
-use cells::{Announcement, Cell, Link, OldTail, Request};
-use next::Used;
+use answer::{Future, Item, Operation};
+use cells::{Announcement, Request};
 
 impl Machine {
     // The node holds the item and no link.
-    pub(crate) fn hand_out_node(mut self, item: Item) -> Machine
-        ensures { result ≡ hand_out_node self item }
+    pub(crate) fn hand_out_node(&mut self, item: Item) -> u16
+        ensures node { result ≡ next_node self.old.used }
+        ensures machine { self.new ≡ hand_out_node self.old item }
     {
-        let used = self.used;
-        let node = (used.nodes % Used::NODES) as usize;
-        self.links[node] = Cell { link: Link::None };
-        self.items[node] = item;
-        let now_used = Used {
-            nodes: std::num::wrapping_add_u32(used.nodes, 1),
-            futures: used.futures,
-            announcements: used.announcements,
-        };
-        self.used = now_used;
-        self
+        let node = self.used.next_node();
+        self.links[usize::from(node)] = None;
+        self.items[usize::from(node)] = item;
+        self.used.nodes = self.used.nodes.wrapping_add(1);
+        node
     }
 
     // The future belongs to a thread and waits for its result.
-    pub(crate) fn hand_out_future(mut self, owner: u8, enqueue: bool) -> Machine
-        ensures { result ≡ hand_out_future self owner enqueue }
+    pub(crate) fn hand_out_future(&mut self, owner: u8, operation: Operation) -> u16
+        ensures future { result ≡ next_future self.old.used }
+        ensures machine { self.new ≡ hand_out_future self.old owner operation }
     {
-        let used = self.used;
-        let future = (used.futures % Used::FUTURES) as usize;
-        self.futures[future] = Future {
+        let future = self.used.next_future();
+        self.futures[usize::from(future)] = Future {
             owner,
-            enqueue,
-            outcome: Outcome::Waiting,
+            operation,
+            outcome: None,
         };
-        let now_used = Used {
-            nodes: used.nodes,
-            futures: std::num::wrapping_add_u32(used.futures, 1),
-            announcements: used.announcements,
-        };
-        self.used = now_used;
-        self
+        self.used.futures = self.used.futures.wrapping_add(1);
+        future
     }
 
     // The announcement has its request, and no old tail yet.
-    pub(crate) fn hand_out_announcement(mut self, request: Request) -> Machine
-        ensures { result ≡ hand_out_announcement self request }
+    pub(crate) fn hand_out_announcement(&mut self, request: Request) -> u8
+        ensures announcement { result ≡ next_announcement self.old.used }
+        ensures machine { self.new ≡ hand_out_announcement self.old request }
     {
-        let used = self.used;
-        let announcement = (used.announcements % Used::ANNOUNCEMENTS) as usize;
-        self.announcements[announcement] = Announcement {
+        let announcement = self.used.next_announcement();
+        self.announcements[usize::from(announcement)] = Announcement {
             request,
-            old_tail: OldTail::Unset,
+            old_tail: None,
         };
-        let now_used = Used {
-            nodes: used.nodes,
-            futures: used.futures,
-            announcements: std::num::wrapping_add_u32(used.announcements, 1),
-        };
-        self.used = now_used;
-        self
+        self.used.announcements = self.used.announcements.wrapping_add(1);
+        announcement
     }
 }

@@ -1,5 +1,6 @@
-// The machine of 01: threads, nodes, futures and announcements, advanced by entries. Each entry takes the
-// machine and hands back the machine and one answer; none can fail, and a refused one changes nothing.
+// The machine of 01: threads, nodes, futures and announcements, advanced by entries. `enter` advances it in
+// place and gives one answer, `apply` takes the machine and hands it back beside the answer; none can fail,
+// and a refused one changes nothing.
 //
 // Numbers that the machine holds are plain numbers, so the code stays defined for every machine: an index
 // is taken by its remainder, a count goes up with wrap and down to 0. No machine that entries reach from
@@ -8,23 +9,27 @@
 
 pub mod engine;
 pub mod entries;
+pub mod fresh;
 pub mod hand_out;
 pub mod pair;
+pub mod seat;
 
-ghost use Rattle.std.specs.Prelude.{◌≡◌, ◌<◌};
-ghost use Rattle.machine.specs.State.{row_at, item_at, future_at, with_row};
+ghost use Rattle.std.specs.Prelude.{◌≡◌, Ok};
 
 use answer::{Answer, Future, Item};
-use cells::{Announcement, Cell, Ends};
+use cells::{Announcement, Ends};
 use next::Used;
+use refusal::Refusal;
 use row::Row;
 
+// Arrays of fixed sizes and no heap. `links` and `items` stand apart since a CAS reaches a link alone, and the definitions of
+// the chain and of its items take them apart; `nodes` and `used` are numbers of the rules, not lengths of the arrays.
 // `links` and `items` by node, `announcements` and `futures` by their numbers, `rows` by thread. `threads`
-// and `nodes` are the numbers of the set-up; crate `set_up` makes a fresh machine of them.
+// and `nodes` are the numbers of the set-up.
 #[derive(Clone, Copy)]
 pub struct Machine {
     pub ends: Ends,
-    pub links: [Cell; Machine::NODES],
+    pub links: [Option<u16>; Machine::NODES],
     pub announcements: [Announcement; Machine::ANNOUNCEMENTS],
     pub items: [Item; Machine::NODES],
     pub futures: [Future; Machine::FUTURES],
@@ -34,12 +39,30 @@ pub struct Machine {
     pub used: Used,
 }
 
+// The answer of an entry, and the steps that it took.
+#[derive(Clone, Copy)]
+pub struct Reply {
+    pub answer: Result<Answer, Refusal>,
+    pub steps: u32,
+}
+
 // The machine after an entry, its answer, and the steps that it took.
 #[derive(Clone, Copy)]
 pub struct Told {
     pub machine: Machine,
-    pub answer: Answer,
+    pub answer: Result<Answer, Refusal>,
     pub steps: u32,
+}
+
+impl Reply {
+    pub(crate) fn of(answer: Answer, steps: u32) -> Reply
+        ensures { result ≡ record { answer = Ok answer; steps = steps } }
+    {
+        Reply {
+            answer: Ok(answer),
+            steps,
+        }
+    }
 }
 
 impl Machine {
@@ -50,33 +73,4 @@ impl Machine {
     pub const FUTURES: usize = 512;
 
     pub const ANNOUNCEMENTS: usize = 64;
-
-    // Reads of one element. To the checker a function that indexes an array of its own machine holds the
-    // machine a second time; one that reads through these and hands the machine on does not.
-    pub(crate) fn row_at(self, thread: usize) -> Row
-        requires { thread < 8 }
-        ensures { result ≡ row_at self thread }
-    {
-        self.rows[thread]
-    }
-
-    pub(crate) fn item_at(self, node: u16) -> Item
-        ensures { result ≡ item_at self node }
-    {
-        self.items[(node % Cell::NODES) as usize]
-    }
-
-    pub(crate) fn future_at(self, future: u32) -> Future
-        ensures { result ≡ future_at self future }
-    {
-        self.futures[(future % Used::FUTURES) as usize]
-    }
-
-    pub(crate) fn with_row(mut self, thread: usize, row: Row) -> Machine
-        requires { thread < 8 }
-        ensures { result ≡ with_row self thread row }
-    {
-        self.rows[thread] = row;
-        self
-    }
 }

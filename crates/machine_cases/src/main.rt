@@ -1,93 +1,104 @@
-// Runs the machine over the scripts on standard input, and shows on a line of standard output what each
-// entry gave. What has to come out is worked out from 01 by tools/machine_cases.py, which also says what
-// stands on a line of the input and on one of the output.
+//! Runs the machine over the scripts on standard input, and shows on a line of standard output what each
+//! entry gave. What has to come out is worked out from 01 by tools/machine_cases.py, which also says what
+//! stands on a line of the input and on one of the output.
 #![tactic(auto)]
 
-mod script;
 mod show;
 
-use answer::Verdict;
 use entry::Entry;
-use machine::{Machine, Told};
-use set_up::SetUp;
+use machine::Machine;
+use std::io;
+use std::io::{BufWriter, Read, Write};
 
-// The machine, and the place of the next entry since its set-up.
-#[derive(Clone, Copy)]
+/// The machine, and the place of the next entry since its set-up.
+#[derive(Drop)]
 struct Session {
     machine: Machine,
     place: u32,
 }
 
-// Takes no more of the input than 65,536 bytes.
-fn main() {
-    let mut input = io::large_buffer();
-    let n = io::read_full(0, &mut input);
-    run_lines(&input[..n]);
-}
-
-// Entries before the first set-up have the smallest machine. Behind the last line end no further line
-// begins.
-fn run_lines(input: &[u8]) {
+/// Takes no more of the input than 65,536 bytes. Entries before the first set-up have the smallest machine. Behind
+/// the last line end no further line begins.
+fn main(rt: HostRuntime) -> io::Result<()> {
+    let mut input = Vec::new(rt.alloc());
+    rt.reader().take(65536).read_to_end(&mut input)?;
+    let mut out = BufWriter::new(rt.alloc(), io::writer(&rt))?;
     let mut session = Session {
-        machine: SetUp::fresh(1, 2),
+        machine: Machine::fresh(1, 2),
         place: 0,
     };
-    let mut from = 0;
-    while from < input.len() {
-        let end = script::line_end(input, from);
-        session = session.run_line(&input[from..end]);
-        from = end + 1;
+    for line in input.split_inclusive(|byte| *byte == b'\n') {
+        let line = line.strip_suffix(b"\n").unwrap_or(line);
+        session.run_line(line, &mut out)?;
     }
+    out.flush()
 }
 
 impl Session {
-    // A comment is shown as it stands.
-    fn run_line(self, line: &[u8]) -> Session {
-        if script::is_comment(line) {
-            io::write_all(1, line);
-            io::write_all(1, b"\n");
-            return self;
+    /// A comment is shown as it stands.
+    fn run_line<W: Write>(&mut self, line: &[u8], out: &mut W) -> io::Result<()> {
+        if line.starts_with(b"#") {
+            out.write_all(line)?;
+            return writeln!(out, "");
         }
-        let code = script::number_at(line, 0);
-        let first = script::number_at(line, code.next);
-        let second = script::number_at(line, first.next);
-        if code.value == 0 {
-            return self.set_up(first.value, second.value);
+        let mut numbers = line.split(|byte| *byte == b' ').map(number);
+        let code = numbers.next().unwrap_or(0);
+        let first = numbers.next().unwrap_or(0);
+        let second = numbers.next().unwrap_or(0);
+        match entry_of(code, first, second) {
+            Some(entry) => self.enter(entry, out),
+            None => self.set_up(first, second, out),
         }
-        let entry = script::entry_of(code.value, first.value, second.value);
-        self.enter(entry, first.value)
     }
 
-    // A new machine; the one before where it is refused.
-    fn set_up(self, threads: u32, nodes: u32) -> Session {
-        let made = SetUp::of(threads, nodes);
-        let verdict = made.verdict;
-        match verdict {
-            Verdict::Refused(refusal) => {
-                show::refusal(refusal);
-                self
-            }
-            Verdict::Accepted => {
-                show::set_up(threads, nodes);
-                let machine = made.machine;
-                Session { machine, place: 0 }
+    /// A new machine of the two numbers of the line, whatever they are; the one before where it is refused.
+    fn set_up<W: Write>(&mut self, threads: u32, nodes: u32, out: &mut W) -> io::Result<()> {
+        match set_up::of(threads, nodes) {
+            Err(refusal) => writeln!(out, "refused {}", refusal.number()),
+            Ok(machine) => {
+                self.machine = machine;
+                self.place = 0;
+                writeln!(out, "machine {threads} {nodes}")
             }
         }
     }
 
-    // An entry, and the thread that it names.
-    fn enter(self, entry: Entry, thread: u32) -> Session {
-        let before = self.machine;
-        shown(before.apply(entry), self.place, thread)
+    /// No input is long enough for the place to wrap.
+    fn enter<W: Write>(&mut self, entry: Entry, out: &mut W) -> io::Result<()> {
+        let reply = self.machine.enter(entry);
+        show::entry(self.place, reply, &self.machine, entry.thread(), out)?;
+        self.place = self.place.wrapping_add(1);
+        Ok(())
     }
 }
 
-// What an entry at a place told is shown. No input is long enough for the place to wrap.
-fn shown(told: Told, place: u32, thread: u32) -> Session {
-    show::entry(place, told, thread);
-    let machine = told.machine;
-    Session {
-        machine,
-        place: std::num::wrapping_add_u32(place, 1),
+fn number(word: &[u8]) -> u32 {
+    script::number(word, u64::from(u32::MAX)) as u32
+}
+
+/// By the scripts' own table, where 0 is a set-up: a slip in that of schedules must not hide here. No script has a code above 7.
+/// The second operand counts where the code has one.
+fn entry_of(code: u32, thread: u32, operand: u32) -> Option<Entry> {
+    match code {
+        0 => None,
+        1 => Some(Entry::Enqueue {
+            thread,
+            item: operand,
+        }),
+        2 => Some(Entry::Dequeue { thread }),
+        3 => Some(Entry::FutureEnqueue {
+            thread,
+            item: operand,
+        }),
+        4 => Some(Entry::FutureDequeue { thread }),
+        5 => Some(Entry::Evaluate {
+            thread,
+            future: operand,
+        }),
+        6 => Some(Entry::Step { thread }),
+        _ => Some(Entry::Run {
+            thread,
+            steps: operand,
+        }),
     }
 }

@@ -1,26 +1,30 @@
 -- 01, "Entries" and "Refusal numbers", 4 to 7: what an entry needs, and when it is not left.
-use Rattle.std.specs.Prelude.{ℕ, Bool, true, false, not, cond, ◌&&◌, eqb, leb}
+use Rattle.std.specs.Prelude.{ℕ, Bool, true, false, not, cond, ◌&&◌, eqb, leb, Err}
+use Rattle.refusal.specs.declared.Refusal.{Refusal}
 use Rattle.refusal.specs.declared.Refusal.TheVariants.{NoNode, NoFuture, NoPendingPlace, NoAnnouncement}
 use Rattle.row.specs.declared.Row.{Row}
-use Rattle.answer.specs.declared.Verdict.{Verdict}
-use Rattle.answer.specs.declared.Verdict.TheVariants.{Accepted, Refused}
 use Rattle.entry.specs.declared.Entry.{Entry}
 use Rattle.entry.specs.declared.Entry.TheVariants.{Enqueue, Dequeue, FutureEnqueue, FutureDequeue, Evaluate, Step, Run}
 use Rattle.next.specs.declared.Used.{Used}
 use Rattle.needs.specs.declared.Needs.{Needs}
+use Rattle.refusal.specs.Verdicts.{Verdict, accepted}
 
 -- needed and none is left
 abbrev pub short : Bool → ℕ → ℕ → Bool
 short needed used all = needed && leb all used
 
+-- and so refused
+abbrev pub left : Bool → ℕ → ℕ → Refusal → Verdict
+left needed used all r = cond (short needed used all) (Err r) accepted
+
 -- 4: a node is needed and none is left. 5: a future. 6: a pending place is needed and t has 32. 7: an announcement.
 abbrev pub lacking : Needs → Used → ℕ → ℕ → Verdict
 lacking n u nodes pending =
-    cond (short n.node u.nodes nodes) (Refused NoNode)
-    (cond (short n.future u.futures 512) (Refused NoFuture)
-    (cond (short n.future pending 32) (Refused NoPendingPlace)
-    (cond (short n.announcement u.announcements 64) (Refused NoAnnouncement)
-    Accepted)))
+    cond (short n.node u.nodes nodes) (Err NoNode)
+    (cond (short n.future u.futures 512) (Err NoFuture)
+    (cond (short n.future pending 32) (Err NoPendingPlace)
+    (cond (short n.announcement u.announcements 64) (Err NoAnnouncement)
+    accepted)))
 
 abbrev pub some : ℕ → Bool
 some n = not (eqb n 0)

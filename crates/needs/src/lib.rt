@@ -2,121 +2,81 @@
 #![tactic(auto)]
 
 ghost use Rattle.std.specs.Prelude.{◌≡◌};
-ghost use Rattle.needs.specs.Needs.{short, lacking, enqueue_needs, dequeue_needs, deferred_needs, evaluate_needs, needs_of};
+ghost use Rattle.needs.specs.Needs.{left, lacking, needs_of};
 
-use answer::Verdict;
 use entry::Entry;
 use next::Used;
 use refusal::Refusal;
 use row::Row;
 
-// A future goes with a pending place.
-#[derive(Clone, Copy)]
+// A future goes with a pending place. Each of the three may be needed with or without the others, so they are no enum.
+#[derive(Clone, Copy, Debug, Default, PartialEq, Eq)]
 pub struct Needs {
     pub node: bool,
     pub future: bool,
     pub announcement: bool,
 }
 
-// With nothing pending Enqueue needs a node only; with pending calls it adds itself and sets them off.
-fn enqueue_needs(row: Row) -> Needs
-    ensures { result ≡ enqueue_needs row }
-{
-    Needs {
-        node: true,
-        future: row.count != 0,
-        announcement: row.count != 0,
-    }
-}
-
-// With nothing pending Dequeue needs nothing; an announcement only where an enqueue is pending.
-fn dequeue_needs(row: Row) -> Needs
-    ensures { result ≡ dequeue_needs row }
-{
-    let tally = row.tally;
-    Needs {
-        node: false,
-        future: row.count != 0,
-        announcement: tally.enqueues != 0,
-    }
-}
-
-// A deferred call needs no announcement yet, and a node only where it is an enqueue.
-fn deferred_needs(enqueue: bool) -> Needs
-    ensures { result ≡ deferred_needs enqueue }
-{
-    Needs {
-        node: enqueue,
-        future: true,
-        announcement: false,
-    }
-}
-
-// Evaluate of a future that is not done.
-fn evaluate_needs(row: Row) -> Needs
-    ensures { result ≡ evaluate_needs row }
-{
-    let tally = row.tally;
-    Needs {
-        node: false,
-        future: false,
-        announcement: tally.enqueues != 0,
-    }
-}
-
-// Of any entry; of Evaluate, where its future is not done.
+// Of any entry; of Evaluate, where its future is not done. A call that sets off a batch needs an
+// announcement only where an enqueue is in it; Enqueue itself is one.
 pub fn of(entry: Entry, row: Row) -> Needs
     ensures { result ≡ needs_of entry row }
 {
-    let nothing = Needs {
-        node: false,
-        future: false,
-        announcement: false,
-    };
+    let pending = row.count != 0;
+    let enqueues = row.tally.enqueues != 0;
+    let nothing = Needs::default();
     match entry {
-        Entry::Enqueue { thread: _, item: _ } => enqueue_needs(row),
-        Entry::Dequeue { thread: _ } => dequeue_needs(row),
-        Entry::FutureEnqueue { thread: _, item: _ } => deferred_needs(true),
-        Entry::FutureDequeue { thread: _ } => deferred_needs(false),
-        Entry::Evaluate {
-            thread: _,
-            future: _,
-        } => evaluate_needs(row),
-        Entry::Step { thread: _ } => nothing,
-        Entry::Run {
-            thread: _,
-            steps: _,
-        } => nothing,
+        Entry::Enqueue { .. } => Needs {
+            node: true,
+            future: pending,
+            announcement: pending,
+        },
+        Entry::Dequeue { .. } => Needs {
+            future: pending,
+            announcement: enqueues,
+            ..nothing
+        },
+        Entry::FutureEnqueue { .. } => Needs {
+            node: true,
+            future: true,
+            ..nothing
+        },
+        Entry::FutureDequeue { .. } => Needs {
+            future: true,
+            ..nothing
+        },
+        Entry::Evaluate { .. } => Needs {
+            announcement: enqueues,
+            ..nothing
+        },
+        Entry::Step { .. } | Entry::Run { .. } => nothing,
     }
 }
 
-// Whether something is needed and all that there are have been handed out.
-fn short(needed: bool, used: u32, all: u32) -> bool
-    ensures { result ≡ short needed used all }
+// Refused where something is needed and all that there are have been handed out.
+fn left(needed: bool, used: u32, all: u32, refusal: Refusal) -> Result<(), Refusal>
+    ensures { result ≡ left needed used all refusal }
 {
-    if needed {
-        return all <= used;
+    if needed && all <= used {
+        Err(refusal)
+    } else {
+        Ok(())
     }
-    false
 }
 
 impl Needs {
     // Refusals 4 to 7, in that order; `nodes` is the machine's number of nodes, `pending` the thread's count.
-    pub fn lacking(self, used: Used, nodes: u32, pending: u32) -> Verdict
+    pub fn lacking(self, used: Used, nodes: u32, pending: u32) -> Result<(), Refusal>
         ensures { result ≡ lacking self used nodes pending }
     {
-        if short(self.node, used.nodes, nodes) {
-            return Verdict::Refused(Refusal::NoNode);
-        }
-        if short(self.future, used.futures, Used::FUTURES) {
-            return Verdict::Refused(Refusal::NoFuture);
-        }
-        if short(self.future, pending, Row::PENDING) {
-            return Verdict::Refused(Refusal::NoPendingPlace);
-        }
-        if short(self.announcement, used.announcements, Used::ANNOUNCEMENTS) {
-            return Verdict::Refused(Refusal::NoAnnouncement);
-        }
-        Verdict::Accepted
+        left(self.node, used.nodes, nodes, Refusal::NoNode)?;
+        left(self.future, used.futures, Used::FUTURES, Refusal::NoFuture)?;
+        left(self.future, pending, Row::PENDING, Refusal::NoPendingPlace)?;
+        left(
+            self.announcement,
+            used.announcements,
+            Used::ANNOUNCEMENTS,
+            Refusal::NoAnnouncement,
+        )
     }
 }

@@ -10,24 +10,23 @@ use lib.ListN.{length, get_or, drop, drop_of_length-le}
 use lib.Seq.{drop-cons, get_or-drop}
 use borrow.Author.Tests.{ltb-true, ltb-false, lt-ltb, le-ltb}
 use Rattle.refusal.specs.declared.Refusal.TheVariants.{CutShort, TooLong}
-use Rattle.numbers.specs.declared.Reading.{Reading}
-use Rattle.numbers.specs.declared.Reading.TheVariants.{Number, Refused}
-use Rattle.numbers.specs.Read.{last_group, before, following, number, number_at, value_of, Bytes}
+use Rattle.numbers.specs.Read.{last_group, before, following, number, number_at, value_of, Bytes, Reading, a_number}
+use Rattle.std.specs.Prelude.{Err, Ok}
 
 module _ (at : ℕ) (s : List ℕ) where
   -- past the end there is no group
-  pub following_cut : (k : ℕ) → length s ≤ at → following k at (drop at s) ≡ Refused CutShort
+  pub following_cut : (k : ℕ) → length s ≤ at → following k at (drop at s) ≡ Err CutShort
   unfolding following
   following_cut zero h = rw (drop_of_length-le s h)
   following_cut (suc k) h = rw (drop_of_length-le s h)
 
-  pub number_cut : length s ≤ at → number_at s at ≡ Refused CutShort
+  pub number_cut : length s ≤ at → number_at s at ≡ Err CutShort
   unfolding number
   number_cut h = rw (drop_of_length-le s h)
 
   module _ (h : at < length s) where
     -- the last group that may follow: too large, or the last
-    pub fifth_too_long : (k : ℕ) → k ≡ 0 → 15 < get_or s at 0 → following k at (drop at s) ≡ Refused TooLong
+    pub fifth_too_long : (k : ℕ) → k ≡ 0 → 15 < get_or s at 0 → following k at (drop at s) ≡ Err TooLong
     unfolding following
     fifth_too_long zero z big = rw (drop-cons s at 0 h, lt-ltb _ _ big)
     fifth_too_long (suc k) z big = absurd (omega arith)
@@ -49,7 +48,7 @@ module _ (at : ℕ) (s : List ℕ) where
     following_more (suc k) nz big = rw (drop-cons s at 0 h, le-ltb _ _ big, sub-one, add-one)
 
     -- the same of the first group
-    pub number_last : get_or s at 0 < 128 → number_at s at ≡ Number (get_or s at 0) (at + 1)
+    pub number_last : get_or s at 0 < 128 → number_at s at ≡ a_number (get_or s at 0) (at + 1)
     unfolding number
     number_last small = rw (drop-cons s at 0 h, lt-ltb _ _ small)
 
@@ -72,8 +71,8 @@ value_of_last at b n h p = fits_if (eqb b 0) n _ _ (λ e. p) (λ e. h)
 
 value_before : (b n : ℕ) (r : Reading) → b < 256 → value_of r < n → value_of (before b r) < 128 * n
 unfolding before
-value_before b n (Number v next) hb h = omega arith
-value_before b n (Refused r) hb h = omega arith
+value_before b n (Ok found) hb h = omega arith
+value_before b n (Err r) hb h = omega arith
 
 capacity_pos : (k : ℕ) → 15 < capacity k
 unfolding capacity

@@ -1,3 +1,4 @@
+pub mod SameNumber
 pub mod GroupByGroup
 pub mod WrittenGroups
 pub mod RoundTrip

@@ -3,18 +3,13 @@ use Prim.Native.Nat.{ℕ, zero, suc, ◌+◌, ◌-◌, ◌/◌, ◌%◌, ◌^◌
 use mathlib.Core.Path.{◌≡◌, refl, sym, ap, ◌∙◌}
 use mathlib.Core.List.{List, [], ◌∷◌, ◌++◌, append_assoc}
 use native.Mathlib.Omega.{arith}
-use native.Mathlib.Numerals.{add-one, sub-one}
+use native.Mathlib.Numerals.{sub-one}
 use lib.Dec.{ltb}
-use lib.ListN.{length, take, set}
-use lib.Seq.{take-suc-set}
+use lib.ListN.{length}
 use borrow.Author.Tests.{lt-ltb, le-ltb}
 use Rattle.refusal.proofs.Tests.{either_way}
 use Rattle.numbers.specs.Write.{groups, groups_of}
 use Rattle.numbers.proofs.GroupByGroup.{capacity}
-
--- a store behind the elements taken so far
-pub one_more_taken : (l : List ℕ) (i a : ℕ) → i < length l → take (i + 1) (set l i a) ≡ take i l ++ (a ∷ [])
-one_more_taken l i a h = rw add-one (take-suc-set l i a h)
 
 pub groups_last : (k n : ℕ) → n < 128 → groups k n ≡ n ∷ []
 unfolding groups

@@ -3,6 +3,7 @@
 -- whether the batch is linked by its old tail, or, while that is unset, by the link of the tail: the tail has not passed the batch then, and
 -- a batch is linked no further on than at the tail, so if it is linked, it is linked behind the tail. No walk to the new head runs off the end,
 -- and the contents are the items of the chain behind it, up to its last node.
+use Rattle.std.specs.Prelude.{None, Some}
 use Prim.Native.Nat.{ℕ, zero, suc, ◌+◌, ◌-◌, ◌<◌}
 use mathlib.Core.Path.{◌≡◌, refl, sym, ap, ◌∙◌}
 use mathlib.Core.Bool.{Bool, true, false, cond, false≢true}
@@ -19,13 +20,10 @@ use Rattle.cells.specs.declared.Tail.{Tail}
 use Rattle.cells.specs.declared.Front.{Front}
 use Rattle.cells.specs.declared.Head.{Head}
 use Rattle.cells.specs.declared.Head.TheVariants.{Plain, Announced}
-use Rattle.cells.specs.declared.Link.{Link}
-use Rattle.cells.specs.declared.Link.TheVariants.{None, To}
-use Rattle.cells.specs.declared.OldTail.{OldTail}
-use Rattle.cells.specs.declared.OldTail.TheVariants.{Unset, Set}
+use Rattle.cells.specs.Links.{Link, OldTail}
 use Rattle.cells.specs.declared.Request.{Request}
 use Rattle.cells.specs.declared.Announcement.{Announcement}
-use Rattle.memory.specs.Memory.{cell_at, announcement_at}
+use Rattle.memory.specs.Memory.{link_at, announcement_at}
 use Rattle.place.specs.declared.RunStep.{RunStep}
 use Rattle.place.specs.declared.RunStep.TheVariants.{A1, A2, A3, A4, A5, A6, A7, A8}
 use Rattle.running.specs.Running.{walk_to}
@@ -61,7 +59,7 @@ head_position m g = position_of m.announcements g m.ends.head
 
 -- the machine's test whether the batch of announcement a is linked, while its old tail is unset
 abbrev pub tail_leads_to_batch : Machine → ℕ → Bool
-tail_leads_to_batch m a = leads_to (cell_at m.links m.ends.tail.node).link (request_in m a).first
+tail_leads_to_batch m a = leads_to (link_at m.links m.ends.tail.node) (request_in m a).first
 
 -- a batch that is linked is linked behind some position
 pub linked_somewhere : (g : Ghost) → InvEnds g → (a j : ℕ) → At g.by j (some a) → (p : ℕ) × Linked g a p
@@ -133,16 +131,16 @@ module _ (m : Machine) (g : Ghost) (i : Inv (shared_of m) g) where
 
     -- the tail's link leads to the batch's first node: then the batch is linked behind the tail, for until it is linked it stands beside the chain
     pub link_leads_means_linked : tail_leads_to_batch m a ≡ true → Linked g a m.ends.tail.count.0
-    link_leads_means_linked = by_link (cell_at m.links m.ends.tail.node).link refl
+    link_leads_means_linked = by_link (link_at m.links m.ends.tail.node) refl
       where
-        by_link : (v : Link) → (cell_at m.links m.ends.tail.node).link ≡ v → leads_to v (request_in m a).first ≡ true → Linked g a m.ends.tail.count.0
+        by_link : (v : Link) → link_at m.links m.ends.tail.node ≡ v → leads_to v (request_in m a).first ≡ true → Linked g a m.ends.tail.count.0
         by_link None e q = absurd (false≢true q)
-        by_link (To x) e q =
+        by_link (Some x) e q =
             found_first (shared_of m) g i 0 no_row a there m.ends.tail x
             (found_behind (shared_of m) g i 0 no_row m.ends.tail.count.0 m.ends.tail.node x i.tail.tail_at e) (eqb-true x (request_in m a).first q)
 
     -- while the old tail is unset, a linked batch stands behind the tail: the tail has not passed it, and it is linked no further on
-    module _ (unset : (announcement_at m.announcements a).old_tail ≡ Unset) where
+    module _ (unset : (announcement_at m.announcements a).old_tail ≡ None) where
       pub linked_at_the_tail : (p : ℕ) → Linked g a p → p ≡ m.ends.tail.count.0
       linked_at_the_tail p l = omega (arith, i.linked.not_past a l.step p l.is l.from unset, linked_le i a p l)
 
@@ -162,10 +160,10 @@ module _ (m : Machine) (g : Ghost) (i : Inv (shared_of m) g) where
     -- with announcement a in the head
     announced_head_at : (o : OldTail) → (announcement_at m.announcements a).old_tail ≡ o
         → At g.chain (position_if (request_in m a) g a (linked_or_not g.by a)) (old_tail_head m.links m.ends.tail (request_in m a) o)
-    announced_head_at (Set o) e =
+    announced_head_at (Some o) e =
         let w = i.linked.old_tails a o e there in
         ap (at g.chain) (if_linked_lem g i.ends (request_in m a) a o.count.0 w.0 (linked_or_not g.by a)) ∙ head_to_be_at o w.0 w.1
-    announced_head_at Unset e = by_test (tail_leads_to_batch m a) refl
+    announced_head_at None e = by_test (tail_leads_to_batch m a) refl
       where
         by_test : (b : Bool) → tail_leads_to_batch m a ≡ b
             → At g.chain (position_if (request_in m a) g a (linked_or_not g.by a)) (cond b (head_to_be m.links (request_in m a) m.ends.tail) (request_in m a).old_head.node)
@@ -196,8 +194,8 @@ module _ (m : Machine) (g : Ghost) (i : Inv (shared_of m) g) where
   pub met_fewer_than_followed : length (chain_after 512 m.links (abstract_head m)) < 512
   met_fewer_than_followed = rw chain_behind_the_head (simp length-drop (omega (arith, chain_fits (shared_of m) g i)))
 
-  pub last_link_is_none : (j n : ℕ) → At g.chain j n → length g.chain ≡ suc j → (cell_at m.links n).link ≡ None
-  last_link_is_none j n h e = no_link (cell_at m.links n).link (last_has_none i.chain.chain j n h e)
+  pub last_link_is_none : (j n : ℕ) → At g.chain j n → length g.chain ≡ suc j → link_at m.links n ≡ None
+  last_link_is_none j n h e = no_link (link_at m.links n) (last_has_none i.chain.chain j n h e)
 
   pub contents_are_the_items_behind : contents m ≡ map (λ n. (item_at m n).value) (drop (suc (head_position m g)) g.chain)
   unfolding contents

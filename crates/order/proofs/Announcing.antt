@@ -1,6 +1,7 @@
 -- b2: a thread lays its announcement over the head it has read, and the head becomes the announcement, or the CAS is not taken. Only the own
 -- announcement's old head is written, and the announcement is nobody else's while it is not installed. Where the CAS is taken, the batch was
 -- a private chain of nodes that are in no chain yet: now it stands beside the chain.
+use Rattle.std.specs.Prelude.{None, Some}
 use Prim.Native.Nat.{ℕ, suc, ◌%◌, ◌<◌}
 use mathlib.Core.Path.{◌≡◌, refl, sym, ap, ◌∙◌, subst}
 use mathlib.Core.List.{[], ◌∷◌}
@@ -15,8 +16,7 @@ use Rattle.chain.proofs.Positions.{one_element, stays, at_the_end, there_or_at_t
 use Rattle.cells.specs.declared.Tail.{Tail}
 use Rattle.cells.specs.declared.Front.{Front}
 use Rattle.cells.specs.declared.Head.TheVariants.{Plain, Announced}
-use Rattle.cells.specs.declared.OldTail.{OldTail}
-use Rattle.cells.specs.declared.OldTail.TheVariants.{Unset, Set}
+use Rattle.cells.specs.Links.{OldTail}
 use Rattle.cells.specs.declared.Announcement.{Announcement}
 use Rattle.memory.specs.Memory.{announcement_at, laid_over}
 use Rattle.row.specs.declared.Row.{Row}
@@ -36,7 +36,7 @@ laid s b f = with_announcements s (announcing s.announcements b (laid_over (anno
 announced_injective : {a b : ℕ} → Announced a ≡ Announced b → a ≡ b
 announced_injective p = cc
 
-unset_is_not_set : {o : OldTail} {t : Tail} → o ≡ Unset → o ≡ Set t → ⊥
+unset_is_not_set : {o : OldTail} {t : Tail} → o ≡ None → o ≡ Some t → ⊥
 unset_is_not_set p q = let z : ◌≡◌ {A = ℕ} 0 1 = cc in omega arith
 
 -- what a batch asks for does not depend on the old head
@@ -61,7 +61,7 @@ module _ (s : Shared) (g : Ghost) (i : Inv s g) (t b : ℕ) (new : NotAnnounced 
   old_tail_left : (a : ℕ) → In g.installed a → (announcement_at (laid s b f).announcements a).old_tail ≡ (announcement_at s.announcements a).old_tail
   old_tail_left a h = ap (λ (x : Announcement). x.old_tail) (installed_left a h)
 
-  still_unset : (announcement_at (laid s b f).announcements b).old_tail ≡ Unset
+  still_unset : (announcement_at (laid s b f).announcements b).old_tail ≡ None
   still_unset = ap (λ (x : Announcement). x.old_tail) laid_is ∙ new.unset
 
   -- first, last and tally of the own request stay
@@ -174,10 +174,10 @@ module _ (s : Shared) (g : Ghost) (i : Inv s g) (t b : ℕ) (new : NotAnnounced 
       (record { chain = new.private.chain; apart = λ k n p. (new.private.mine k n p).not_in_chain })
 
   module _ (was : s.head ≡ Plain f) where
-    old_tails_lem : (a : ℕ) (o : Tail) → (announcement_at (laid s b f).announcements a).old_tail ≡ Set o → In g.installed a ⊎ (a ≡ b) → Linked (installs g b) a o.count.0 × TailAt g o
+    old_tails_lem : (a : ℕ) (o : Tail) → (announcement_at (laid s b f).announcements a).old_tail ≡ Some o → In g.installed a ⊎ (a ≡ b) → Linked (installs g b) a o.count.0 × TailAt g o
     old_tails_lem a o e (inl h) = let w = i.linked.old_tails a o (sym (old_tail_left a h) ∙ e) h in (linked_as_before w.0, w.1)
     old_tails_lem a o e (inr q) =
-        absurd (unset_is_not_set still_unset (subst (λ (a : ℕ). (announcement_at (laid s b f).announcements a).old_tail ≡ Set o) q e))
+        absurd (unset_is_not_set still_unset (subst (λ (a : ℕ). (announcement_at (laid s b f).announcements a).old_tail ≡ Some o) q e))
 
     old_heads : (a : ℕ) → In g.installed a ⊎ (a ≡ b) → FrontAt g (announcement_at (laid s b f).announcements a).request.old_head
     old_heads a (inl h) = old_head_still a h

@@ -1,4 +1,5 @@
 -- Deferred calls: FutureEnqueue hands out a node and links it behind the thread's pending ones, FutureDequeue only counts. Both keep the invariant.
+use Rattle.std.specs.Prelude.{Some}
 use Prim.Native.Nat.{ℕ, suc, ◌%◌, ◌<◌, ◌≤◌}
 use mathlib.Core.Path.{◌≡◌, refl, sym, ap, ◌∙◌, subst}
 use mathlib.Core.Bool.{Bool, true, false, cond}
@@ -20,8 +21,7 @@ use Rattle.tally.specs.Tally.{tally_of, with}
 use Rattle.tally.specs.declared.Tally.{Tally}
 use Rattle.tally.proofs.KeptUp.{tally_one_more}
 use Rattle.tally.proofs.Counts.{enqueues_are_calls}
-use Rattle.cells.specs.declared.Cell.{Cell}
-use Rattle.cells.specs.declared.Link.TheVariants.{To}
+use Rattle.cells.specs.Links.{Link}
 use Rattle.place.specs.declared.Place.TheVariants.{Idle}
 use Rattle.row.specs.declared.Row.{Row}
 use Rattle.row.specs.Row.{with_enqueue, with_dequeue, first_with}
@@ -57,7 +57,7 @@ more_tallied g t r r' c h few lt tallies counts =
     }
 
 -- whoever follows the links from the first pending node meets the pending nodes
-pub meets_the_pending : (s : Shared) (g : Ghost) (t : ℕ) (r : Row) (h : Pending s g t r) (links : List Cell) → Chain (next links) h.nodes → pending_nodes links r ≡ h.nodes
+pub meets_the_pending : (s : Shared) (g : Ghost) (t : ℕ) (r : Row) (h : Pending s g t r) (links : List Link) → Chain (next links) h.nodes → pending_nodes links r ≡ h.nodes
 unfolding at following
 meets_the_pending s g t r h links chain = by h.nodes chain h.many h.first_is
   where
@@ -134,7 +134,7 @@ module _ (m : Machine) (g : Ghost) (ok : Ok m g) (i : ℕ) (lt : i < 8) (idle : 
     out = shared_of (hand_out_node m v)
 
     abbrev linked_if : Bool → Shared
-    linked_if b = with_links out (cond b out.links (set out.links ((row_at m i).last % 512) (record { link = To (next_node m.used) })))
+    linked_if b = with_links out (cond b out.links (set out.links ((row_at m i).last % 512) (Some (next_node m.used))))
 
     shared_is : shared_of (defer_enqueue m i v) ≡ linked_if (eqb (row_at m i).tally.enqueues 0)
     unfolding defer_enqueue linked_behind

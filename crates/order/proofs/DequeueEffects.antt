@@ -1,4 +1,5 @@
 -- Dequeue: it takes effect at the d2 that finds none, on an empty queue, or when d3 is taken, with the oldest item.
+use Rattle.std.specs.Prelude.{None, Some}
 use Prim.Native.Nat.{ℕ, suc, ◌+◌, ◌≤◌}
 use mathlib.Core.Path.{◌≡◌, refl, sym, ap, ap₂, ◌∙◌, subst}
 use mathlib.Core.Bool.{Bool, true, false, cond}
@@ -15,10 +16,9 @@ use Rattle.tally.specs.Excess.{enqueued}
 use Rattle.cells.specs.declared.Head.{Head}
 use Rattle.cells.specs.declared.Head.TheVariants.{Plain, Announced}
 use Rattle.cells.specs.declared.Front.{Front}
-use Rattle.cells.specs.declared.Link.{Link}
-use Rattle.cells.specs.declared.Link.TheVariants.{None, To}
+use Rattle.cells.specs.Links.{Link}
 use Rattle.cells.specs.Ends.{past_front, same_head}
-use Rattle.memory.specs.Memory.{cell_at, with_head, head_cas, perform}
+use Rattle.memory.specs.Memory.{link_at, with_head, head_cas, perform}
 use Rattle.found.specs.Found.{taken_in}
 use Rattle.place.specs.declared.DequeueStep.{DequeueStep}
 use Rattle.place.specs.declared.DequeueStep.TheVariants.{D1, D2, D3}
@@ -95,7 +95,7 @@ module _ (m : Machine) (g : Ghost) (s : Story) (i : ℕ) (r : Row) (here : Here 
 
   -- d2 that finds none
   module _ (f : Front) (at : FrontAt g f) (waits : WaitsSingle s i dequeue) (seen : f.count.0 ≤ head_position m g) where
-    d2_none : (cell_at m.links f.node).link ≡ None → OrderFine m g s i r (with_memory m (memory_of m)) g (step_story s i (now_last s i) read) afterwards.Empty
+    d2_none : link_at m.links f.node ≡ None → OrderFine m g s i r (with_memory m (memory_of m)) g (step_story s i (now_last s i) read) afterwards.Empty
     unfolding results result successful
     d2_none e =
         let free : leaves s.order [] ≡ [] = empty_behind m g s here.inv here.orderly f.count.0 f.node at (ap led e) seen in
@@ -103,9 +103,9 @@ module _ (m : Machine) (g : Ghost) (s : Story) (i : ℕ) (r : Row) (here : Here 
         takes waits (with_memory m (memory_of m)) quiet refl (omega (arith, ap successful gives)) afterwards.Empty empty gives
         (ended waits (with_memory m (memory_of m)) quiet refl (omega (arith, ap successful gives)) afterwards.Empty empty gives)
 
-    d2_order : (v : Link) → (cell_at m.links f.node).link ≡ v → OrderFine m g s i r (with_memory m (memory_of m)) g (step_story s i (if_none v (now_last s i) s.order) read) (after_d2 f v)
+    d2_order : (v : Link) → link_at m.links f.node ≡ v → OrderFine m g s i r (with_memory m (memory_of m)) g (step_story s i (if_none v (now_last s i) s.order) read) (after_d2 f v)
     d2_order None e = d2_none e
-    d2_order (To x) e = only_reads m g s i r here _ (λ on. (waits_single_stay m g s here.inv _ g _ i on _ waits, seen_stays m g s here.inv _ g _ i on _ seen))
+    d2_order (Some x) e = only_reads m g s i r here _ (λ on. (waits_single_stay m g s here.inv _ g _ i on _ waits, seen_stays m g s here.inv _ g _ i on _ seen))
 
   -- d3, taken: the head moves to the node read
   module _ (f : Front) (x : ℕ) (at : FrontAt g f) (behind : At g.chain (suc f.count.0) x) (waits : WaitsSingle s i dequeue) (seen : f.count.0 ≤ head_position m g) where
@@ -142,5 +142,5 @@ module _ (m : Machine) (g : Ghost) (s : Story) (i : ℕ) (r : Row) (here : Here 
       (dequeue_after x (perform (memory_of m) (dequeue_access x)).found)
   unfolding perform dequeue_access dequeue_after
   dequeue_order_lem D1 k w inv' grows = d1_order w m.ends.head refl
-  dequeue_order_lem (D2 f) k w inv' grows = d2_order f k w.0 w.1 (cell_at m.links f.node).link refl
+  dequeue_order_lem (D2 f) k w inv' grows = d2_order f k w.0 w.1 (link_at m.links f.node) refl
   dequeue_order_lem (D3 f x) k w inv' grows = d3_order f x k.0 k.1 w.0 w.1 (same_head m.ends.head (Plain f)) refl inv' grows

@@ -1,6 +1,7 @@
 -- Batch of dequeues only. If it finds nothing at its first read, the queue is empty and it takes effect there. Else it takes effect when q3 is taken,
 -- at the place of its last read: the head has not moved since it was read, so what took effect after that read only enqueued; and at that read the
 -- nodes found were all there were, or all that the batch needs.
+use Rattle.std.specs.Prelude.{None, Some}
 use Prim.Native.Nat.{ℕ, suc, ◌+◌, ◌-◌, ◌<◌, ◌≤◌}
 use mathlib.Core.Path.{◌≡◌, refl, sym, ap, ◌∙◌, subst}
 use mathlib.Core.Bool.{Bool, true, false, cond}
@@ -19,10 +20,9 @@ use Rattle.tally.specs.Excess.{enqueued}
 use Rattle.tally.proofs.OneKind.{successful_dequeues, results_dequeues}
 use Rattle.cells.specs.declared.Head.{Head}
 use Rattle.cells.specs.declared.Head.TheVariants.{Plain, Announced}
-use Rattle.cells.specs.declared.Link.{Link}
-use Rattle.cells.specs.declared.Link.TheVariants.{None, To}
+use Rattle.cells.specs.Links.{Link}
 use Rattle.cells.specs.Ends.{past_front, same_head}
-use Rattle.memory.specs.Memory.{cell_at, with_head, head_cas, perform}
+use Rattle.memory.specs.Memory.{link_at, with_head, head_cas, perform}
 use Rattle.found.specs.Found.{taken_in}
 use Rattle.place.specs.declared.Walk.{Walk}
 use Rattle.place.specs.declared.DequeuesStep.{DequeuesStep}
@@ -131,7 +131,7 @@ module _ (m : Machine) (g : Ghost) (s : Story) (i : ℕ) (r : Row) (here : Here 
 
   -- q2 that finds a node
   module _ (w : Walk) (waits : WaitsDequeues s i r) (walks : Walks g w) (seen : w.front.count.0 ≤ head_position m g) (few : w.taken < length (of s i).calls) where
-    q2_found : (x : ℕ) → (cell_at m.links w.at).link ≡ To x → (n : ℕ) → n ≡ suc w.taken → (b : Bool) → ltb n r.tally.dequeues ≡ b
+    q2_found : (x : ℕ) → link_at m.links w.at ≡ Some x → (n : ℕ) → n ≡ suc w.taken → (b : Bool) → ltb n r.tally.dequeues ≡ b
         → OrderFine m g s i r m₀ g reread (cond b (dequeues_at (Q2 (record { front = w.front; at = x; taken = n }))) (dequeues_at (Q3 (record { front = w.front; at = x; taken = n }))))
     q2_found x e n is true q =
         reads_again (dequeues_at (Q2 (record { front = w.front; at = x; taken = n })))
@@ -144,7 +144,7 @@ module _ (m : Machine) (g : Ghost) (s : Story) (i : ℕ) (r : Row) (here : Here 
         (inl (omega (arith, ltb-false n r.tally.dequeues q, counted))))
 
     -- q2 that finds none: at the first read the queue is empty
-    module _ (none : (cell_at m.links w.at).link ≡ None) where
+    module _ (none : link_at m.links w.at ≡ None) where
       chain_ends : length g.chain ≡ suc (w.front.count.0 + w.taken)
       chain_ends = omega (arith, none_is_the_last here.inv.chain.chain _ _ walks.1 (ap led none), within g.chain _ walks.1)
 
@@ -199,10 +199,10 @@ module _ (m : Machine) (g : Ghost) (s : Story) (i : ℕ) (r : Row) (here : Here 
           subst (λ (l : List Effect). OrderFine m g s i r m₀ g (step_story s i l s.clock) (afterwards.PairDequeues w.front.node 0)) (sym last_place) (found_nothing (eqb-true w.taken 0 e))
       q2_none false e = q2_stops (eqb-false w.taken 0 e)
 
-    q2_order : (v : Link) → (cell_at m.links w.at).link ≡ v
+    q2_order : (v : Link) → link_at m.links w.at ≡ v
         → OrderFine m g s i r m₀ g (step_story s i (if_none v (cond (eqb w.taken 0) (put_in_at s i s.clock) s.order) s.order) s.clock) (after_q2 w v r.tally.dequeues)
     q2_order None e = q2_none e (eqb w.taken 0) refl
-    q2_order (To x) e =
+    q2_order (Some x) e =
         q2_found x e _ (omega (arith, position_small (shared_of m) g here.inv _ _ walks.1)) (ltb (one_further w x).taken r.tally.dequeues) refl
 
   -- q3, taken
@@ -323,5 +323,5 @@ module _ (m : Machine) (g : Ghost) (s : Story) (i : ℕ) (r : Row) (here : Here 
       (step_story s i (dequeues_order (memory_of m) s i x) (read_at s.clock (of s i).last_read x)) (dequeues_after x (perform (memory_of m) (dequeues_access x)).found r.tally.dequeues)
   unfolding perform dequeues_access dequeues_after
   dequeues_order_lem Q1 some q w inv' grows = q1_order w some m.ends.head refl
-  dequeues_order_lem (Q2 l) some q w inv' grows = q2_order l w.0 q w.1 w.2 (cell_at m.links l.at).link refl
+  dequeues_order_lem (Q2 l) some q w inv' grows = q2_order l w.0 q w.1 w.2 (link_at m.links l.at) refl
   dequeues_order_lem (Q3 l) some q w inv' grows = q3_order l q w.0 w.1 (same_head m.ends.head (Plain l.front)) refl inv' grows

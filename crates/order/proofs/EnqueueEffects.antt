@@ -1,4 +1,5 @@
 -- Enqueue: it takes effect when e2 is taken, and is run there on whatever the queue holds; e3 ends it with ok.
+use Rattle.std.specs.Prelude.{None, Some}
 use Prim.Native.Nat.{ℕ, suc, ◌+◌}
 use mathlib.Core.Path.{◌≡◌, refl, sym, ap, ◌∙◌, subst}
 use mathlib.Core.List.{List, [], ◌∷◌}
@@ -12,10 +13,9 @@ use Rattle.tally.specs.Excess.{enqueued}
 use Rattle.cells.specs.declared.Head.{Head}
 use Rattle.cells.specs.declared.Head.TheVariants.{Plain, Announced}
 use Rattle.cells.specs.declared.Tail.{Tail}
-use Rattle.cells.specs.declared.Link.{Link}
-use Rattle.cells.specs.declared.Link.TheVariants.{None, To}
+use Rattle.cells.specs.Links.{Link}
 use Rattle.cells.specs.Ends.{past_tail, same_tail}
-use Rattle.memory.specs.Memory.{Memory, cell_at, with_link, link_cas, perform}
+use Rattle.memory.specs.Memory.{Memory, link_at, with_link, link_cas, perform}
 use Rattle.found.specs.Found.{link_in}
 use Rattle.place.specs.declared.EnqueueStep.{EnqueueStep}
 use Rattle.place.specs.declared.EnqueueStep.TheVariants.{E1, E2, E3, E4, E5}
@@ -62,10 +62,10 @@ module _ (m : Machine) (g : Ghost) (s : Story) (i : ℕ) (r : Row) (here : Here 
 
   -- e2, taken: the node is linked, the abstract head stays
   module _ (l : Tail) (waits : WaitsSingle s i (enqueue (value_of m.items n)))
-      (inv' : Inv (in_memory (shared_of m) (with_link (memory_of m) l.node (To n))) (joins g l (n ∷ []) none))
-      (grows : Grows (shared_of m) g (in_memory (shared_of m) (with_link (memory_of m) l.node (To n))) (joins g l (n ∷ []) none)) where
+      (inv' : Inv (in_memory (shared_of m) (with_link (memory_of m) l.node (Some n))) (joins g l (n ∷ []) none))
+      (grows : Grows (shared_of m) g (in_memory (shared_of m) (with_link (memory_of m) l.node (Some n))) (joins g l (n ∷ []) none)) where
     abbrev m' : Machine
-    m' = with_memory m (with_link (memory_of m) l.node (To n))
+    m' = with_memory m (with_link (memory_of m) l.node (Some n))
 
     abbrev g' : Ghost
     g' = joins g l (n ∷ []) none
@@ -129,7 +129,7 @@ module _ (m : Machine) (g : Ghost) (s : Story) (i : ℕ) (r : Row) (here : Here 
       → OrderFine m g s i r (with_memory m (link_cas (memory_of m) l.node n x).memory) (if_none x (joins g l (n ∷ []) none) g)
       (step_story s i (if_none x (now_last s i) s.order) read) (after_e2 n l (link_in (link_cas (memory_of m) l.node n x).found))
   e2_order l None w inv' grows = e2_taken l w inv' grows
-  e2_order l (To y) w inv' grows = only_reads m g s i r here _ (waiting_on (memory_of m) w)
+  e2_order l (Some y) w inv' grows = only_reads m g s i r here _ (waiting_on (memory_of m) w)
 
   e4_order : (l : Tail) (x : ℕ) → WaitsSingle s i (enqueue v) → (y : Head) → OrderFine m g s i r (with_memory m (memory_of m)) g (step_story s i s.order read) (after_e4 n l x y)
   e4_order l x w (Plain f) = only_reads m g s i r here _ (waiting_on (memory_of m) w)
@@ -145,7 +145,7 @@ module _ (m : Machine) (g : Ghost) (s : Story) (i : ℕ) (r : Row) (here : Here 
       (step_story s i (enqueue_order (memory_of m) s i x) read) (enqueue_after n x (perform (memory_of m) (enqueue_access n x)).found)
   unfolding perform enqueue_access enqueue_after
   enqueue_order_lem E1 w inv' grows = only_reads m g s i r here _ (waiting_on (memory_of m) w)
-  enqueue_order_lem (E2 l) w inv' grows = e2_order l (cell_at m.links l.node).link w inv' grows
+  enqueue_order_lem (E2 l) w inv' grows = e2_order l (link_at m.links l.node) w inv' grows
   enqueue_order_lem (E3 l) w inv' grows = moves_the_tail m g s i r here (past_tail l n 1) (same_tail m.ends.tail l) afterwards.Ok inv' grows (λ on. ended w)
   enqueue_order_lem (E4 l x) w inv' grows = e4_order l x w m.ends.head
   enqueue_order_lem (E5 l x) w inv' grows = moves_the_tail m g s i r here (past_tail l x 1) (same_tail m.ends.tail l) (enqueue_at n E1) inv' grows (waiting_on _ w)

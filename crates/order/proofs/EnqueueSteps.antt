@@ -1,5 +1,6 @@
 -- Enqueue, e1 to e5: each step keeps the invariant. e2 is a link step of one node; behind a tail that has a next node stands a single enqueue's
 -- node or a batch, and where the head is plain a batch there has been passed by the tail: so e5 moves it over one link step, or is not taken.
+use Rattle.std.specs.Prelude.{None, Some}
 use Prim.Native.Nat.{ℕ, zero, suc, ◌+◌, ◌<◌}
 use mathlib.Core.Path.{◌≡◌, refl, sym, ap, ◌∙◌, subst}
 use mathlib.Core.List.{[], ◌∷◌, ◌++◌}
@@ -14,11 +15,10 @@ use Rattle.cells.specs.declared.Tail.{Tail}
 use Rattle.cells.specs.declared.Front.{Front}
 use Rattle.cells.specs.declared.Head.{Head}
 use Rattle.cells.specs.declared.Head.TheVariants.{Plain, Announced}
-use Rattle.cells.specs.declared.Link.{Link}
-use Rattle.cells.specs.declared.Link.TheVariants.{None, To}
+use Rattle.cells.specs.Links.{Link}
 use Rattle.found.specs.declared.Found.TheVariants as found
 use Rattle.cells.specs.Ends.{past_tail, same_tail}
-use Rattle.memory.specs.Memory.{cell_at, link_cas, perform}
+use Rattle.memory.specs.Memory.{link_at, link_cas, perform}
 use Rattle.found.specs.Found.{link_in}
 use Rattle.place.specs.declared.After.TheVariants as afterwards
 use Rattle.place.specs.declared.EnqueueStep.{EnqueueStep}
@@ -41,7 +41,7 @@ module _ (s : Shared) (g : Ghost) (i : Inv s g) (t : ℕ) (r : Row) where
   tail_now = record { is = i.tail.tail_at; step = i.tail.step; ends = i.tail.tail_ends; old = omega arith }
 
   -- the node behind a node of the chain, as a link leads to it
-  pub found_behind : (k n x : ℕ) → At g.chain k n → (cell_at s.links n).link ≡ To x → At g.chain (suc k) x
+  pub found_behind : (k n x : ℕ) → At g.chain k n → link_at s.links n ≡ Some x → At g.chain (suc k) x
   found_behind k n x p e = sym (i.chain.chain.links k n p) ∙ ap led e
 
   -- a node of one's own is a link step of one node
@@ -66,7 +66,7 @@ module _ (s : Shared) (g : Ghost) (i : Inv s g) (t : ℕ) (r : Row) where
     others = λ a b h f w p x q k. m.mine.not_in_batch a b h p (subst (In b.nodes) (the_only_one n x q.0 q.1) k);
   }
 
-  at_e2 : (n : ℕ) (l : Tail) → Single s g t n → TailRead s g l → Alone g t → (v : Link) → (cell_at s.links l.node).link ≡ v
+  at_e2 : (n : ℕ) (l : Tail) → Single s g t n → TailRead s g l → Alone g t → (v : Link) → link_at s.links l.node ≡ v
       → Fine s g t r (link_cas (memory_in s) l.node n v) (if_none v (joins g l (n ∷ []) none) g) (after_e2 n l (link_in (link_cas (memory_in s) l.node n v).found))
   at_e2 n l m read alone None e = record {
     inv = join_inv s g i (n ∷ []) n none l read free j;
@@ -81,7 +81,7 @@ module _ (s : Shared) (g : Ghost) (i : Inv s g) (t : ℕ) (r : Row) where
       j : Joins s g (n ∷ []) n none l
       j = one_node_lem n l m
 
-      grows : Grows s g (with_links s (linked s.links l.node (To n))) (joins g l (n ∷ []) none)
+      grows : Grows s g (with_links s (linked s.links l.node (Some n))) (joins g l (n ∷ []) none)
       grows = join_grows s g i (n ∷ []) n none l read free j
 
       away : (u : ℕ) → u ≢ t → (x : ℕ) → Mine g u x → In (n ∷ []) x → ⊥
@@ -100,7 +100,7 @@ module _ (s : Shared) (g : Ghost) (i : Inv s g) (t : ℕ) (r : Row) where
         is = subst (λ (k : ℕ). At (g.by ++ (none ∷ [])) k none) (i.ends.same_length ∙ ends) (at_the_end g.by none);
         to = rw (← ends, let z : suc l.count.0 ≡ l.count.0 + 1 = omega arith in z) (at_the_end g.ends (l.count.0 + 1));
       }
-  at_e2 n l m read alone (To x) e = reads_only s g i t r (found.Link (To x)) (enqueue_at n (E4 l x)) ((m, read, found_behind l.count.0 l.node x read.is e), alone)
+  at_e2 n l m read alone (Some x) e = reads_only s g i t r (found.Link (Some x)) (enqueue_at n (E4 l x)) ((m, read, found_behind l.count.0 l.node x read.is e), alone)
 
   -- the link step behind a tail that was read and has a next node: a single enqueue's, or a batch
   pub step_behind : (l : Tail) (x : ℕ) (read : TailRead s g l) → At g.chain (suc l.count.0) x
@@ -137,7 +137,7 @@ module _ (s : Shared) (g : Ghost) (i : Inv s g) (t : ℕ) (r : Row) where
       → Fine s g t r (perform (memory_in s) (enqueue_access n x)) (enqueue_ghost (memory_in s) g n x) (enqueue_after n x (perform (memory_in s) (enqueue_access n x)).found)
   unfolding perform enqueue_access enqueue_after
   enqueue_step n E1 k alone = reads_only s g i t r (found.Tail s.tail) (enqueue_at n (E2 s.tail)) ((k, tail_now), alone)
-  enqueue_step n (E2 l) k alone = at_e2 n l k.0 k.1 alone (cell_at s.links l.node).link refl
+  enqueue_step n (E2 l) k alone = at_e2 n l k.0 k.1 alone (link_at s.links l.node) refl
   enqueue_step n (E3 l) k alone = tail_by_one s g i t r l n k.1 (inl k.2) afterwards.Ok (λ b e. alone) (same_tail s.tail l) refl
   enqueue_step n (E4 l x) k alone = reads_only s g i t r (found.Head s.head) (after_e4 n l x s.head) (at_e4 n l x k alone s.head refl)
   enqueue_step n (E5 l x) k alone =

@@ -10,24 +10,22 @@ use lib.Dec.{eqb, ltb}
 use lib.ListN.{length, get_or, set}
 use lib.Seq.{get_or-set_same}
 use borrow.Author.Tests.{eqb-true, eqb-false, ne_eqb, ltb-true}
+use Rattle.std.specs.Prelude.{None, Some}
 use Rattle.refusal.specs.declared.Refusal.TheVariants.{NotOwnFuture}
 use Rattle.tally.specs.Tally.{up}
 use Rattle.place.specs.declared.Place.TheVariants.{Idle}
 use Rattle.row.specs.declared.Row.{Row}
 use Rattle.row.specs.Row.{with_enqueue, with_dequeue}
 use Rattle.answer.specs.declared.Future.{Future}
-use Rattle.answer.specs.declared.Outcome.{Outcome}
-use Rattle.answer.specs.declared.Outcome.TheVariants as outcome
-use Rattle.answer.specs.declared.Outcome.TheVariants.{Waiting}
-use Rattle.answer.specs.declared.Verdict.{Verdict}
-use Rattle.answer.specs.declared.Verdict.TheVariants.{Accepted, Refused}
+use Rattle.answer.specs.Answer.{Outcome}
 use Rattle.entry.specs.declared.Entry.{Entry}
 use Rattle.entry.specs.declared.Entry.TheVariants as entry
 use Rattle.needs.specs.declared.Needs.{Needs}
 use Rattle.next.specs.Next.{next_node, next_future}
 use Rattle.needs.specs.Needs.{lacking, enqueue_needs, dequeue_needs, future_enqueue_needs, future_dequeue_needs, evaluate_needs, some}
 use Rattle.refuse.specs.Refusals.{steppable, call_verdict}
-use Rattle.answer.specs.Verdicts.{where_accepted}
+use Rattle.answer.specs.declared.Operation.{Operation}
+use Rattle.answer.specs.declared.Operation.TheVariants as operation
 use Rattle.refuse.proofs.Accepted.{Left, callable_is_below, callable_is_idle, nothing_lacks, call_accepted}
 use Rattle.machine.specs.declared.Machine.{Machine}
 use Rattle.machine.specs.declared.Told.{Told}
@@ -38,6 +36,8 @@ use Rattle.laws.proofs.HandedOut.{futures_in_order}
 use Rattle.order.specs.Events.{Event, EnqueueStarts, DequeueStarts, EnqueueDeferred, DequeueDeferred, BatchSetOff, FutureAsked, StepTaken, does, after_events, kept_beside, run_events, enqueue_events, dequeue_events, evaluate_own_events, evaluate_events, entry_events, events}
 use Rattle.order.specs.Reached.{after}
 use Rattle.order.proofs.RowPut.{put_here}
+use Rattle.refusal.specs.Verdicts.{Verdict, accepted, where_accepted}
+use Rattle.std.specs.Prelude.{Err, Ok}
 
 -- the machine's tables have their sizes
 pub record Sized (m : Machine) : Type 0 where
@@ -63,13 +63,13 @@ pub record OwnFuture (m : Machine) (i f : ℕ) : Type 0 where
 pub record RoomToSetOff (m : Machine) (i f : ℕ) : Type 0 where
   pub free : Free m i
   pub own : OwnFuture m i f
-  pub waits : (future_at m f).outcome ≡ Waiting
+  pub waits : (future_at m f).outcome ≡ None
   pub announcement : (row_at m i).tally.enqueues ≢ 0 → m.used.announcements < 64
 
 pub record DoneFuture (m : Machine) (i f : ℕ) : Type 0 where
   pub free : Free m i
   pub own : OwnFuture m i f
-  pub done : (future_at m f).outcome ≢ Waiting
+  pub done : (future_at m f).outcome ≢ None
 
 abbrev pub Finds : Machine → Event → Type 0
 Finds m (EnqueueStarts i v) = Free m i × ((row_at m i).count ≡ 0) × (m.used.nodes < m.nodes)
@@ -101,10 +101,10 @@ two_made : (m : Machine) (e f : Event) → Finds m e → Finds (does m e) f → 
 unfolding after_events AllFind
 two_made m e f h k = record { leads = refl; find = (h, (k, tt)) }
 
-decided_made : (v : Verdict) (m : Machine) (x : Told) (es : List Event) → (v ≡ Accepted → Made m x.machine es) → Made m (decided v m x).machine (where_accepted v es [])
+decided_made : (v : Verdict) (m : Machine) (x : Told) (es : List Event) → (v ≡ accepted → Made m x.machine es) → Made m (decided v m x).machine (where_accepted v es [])
 unfolding decided
-decided_made Accepted m x es f = f refl
-decided_made (Refused r) m x es f = none_made m
+decided_made (Ok ok) m x es f = f refl
+decided_made (Err r) m x es f = none_made m
 
 -- a count that is not 0 is some
 is_some : (n : ℕ) → n ≢ 0 → some n ≡ true
@@ -126,17 +126,17 @@ module _ (m : Machine) (sized : Sized m) (i : ℕ) (free : Free m i) (left : m.u
   number = (futures_in_order m.used left).0
 
   -- the row and the future that a deferred call leaves
-  module _ (m' : Machine) (row : Row) (enqueue : Bool) (rows : m'.rows ≡ set m.rows i row)
-      (futures : m'.futures ≡ set m.futures (next_future m.used) (record { owner = i; enqueue = enqueue; outcome = Waiting }))
+  module _ (m' : Machine) (row : Row) (o : Operation) (rows : m'.rows ≡ set m.rows i row)
+      (futures : m'.futures ≡ set m.futures (next_future m.used) (record { owner = i; operation = o; outcome = None }))
       (used : m'.used.futures ≡ up m.used.futures) (same : row.place ≡ (row_at m i).place) where
     row_is : row_at m' i ≡ row
     row_is = put_here m m' i row rows sized.rows free.small
 
-    future_is : future_at m' (next_future m.used) ≡ record { owner = i; enqueue = enqueue; outcome = Waiting }
+    future_is : future_at m' (next_future m.used) ≡ record { owner = i; operation = o; outcome = None }
     future_is =
         ap (λ (l : List Future). get_or l (next_future m.used % 512) no_future) futures
-        ∙ ap (λ (k : ℕ). get_or (set m.futures (next_future m.used) (record { owner = i; enqueue = enqueue; outcome = Waiting })) k no_future) (let z : next_future m.used % 512 ≡ next_future m.used = omega arith in z)
-        ∙ get_or-set_same m.futures (next_future m.used) (record { owner = i; enqueue = enqueue; outcome = Waiting }) no_future (omega (arith, sized.futures))
+        ∙ ap (λ (k : ℕ). get_or (set m.futures (next_future m.used) (record { owner = i; operation = o; outcome = None })) k no_future) (let z : next_future m.used % 512 ≡ next_future m.used = omega arith in z)
+        ∙ get_or-set_same m.futures (next_future m.used) (record { owner = i; operation = o; outcome = None }) no_future (omega (arith, sized.futures))
 
     then_set_off : (row.tally.enqueues ≢ 0 → m'.used.announcements < 64) → RoomToSetOff m' i (next_future m.used)
     then_set_off announcement = record {
@@ -156,7 +156,7 @@ module _ (m : Machine) (sized : Sized m) (i : ℕ) (free : Free m i) where
     where
       set_off_lem : (row_at m i).count ≢ 0 → RoomToSetOff (defer_enqueue m i (record { value = v })) i (next_future m.used)
       set_off_lem ne =
-          then_set_off m sized i free (left.future (is_some _ ne)) (defer_enqueue m i (record { value = v })) (with_enqueue (row_at m i) (next_future m.used) (next_node m.used)) true refl refl refl refl
+          then_set_off m sized i free (left.future (is_some _ ne)) (defer_enqueue m i (record { value = v })) (with_enqueue (row_at m i) (next_future m.used) (next_node m.used)) operation.Enqueue refl refl refl refl
           (λ e. left.announcement (is_some _ ne))
 
       by : (b : Bool) → eqb (row_at m i).count 0 ≡ b
@@ -173,7 +173,7 @@ module _ (m : Machine) (sized : Sized m) (i : ℕ) (free : Free m i) where
     where
       set_off_lem : (row_at m i).count ≢ 0 → RoomToSetOff (defer_dequeue m i) i (next_future m.used)
       set_off_lem ne =
-          then_set_off m sized i free (left.future (is_some _ ne)) (defer_dequeue m i) (with_dequeue (row_at m i) (next_future m.used)) false refl refl refl refl
+          then_set_off m sized i free (left.future (is_some _ ne)) (defer_dequeue m i) (with_dequeue (row_at m i) (next_future m.used)) operation.Dequeue refl refl refl refl
           (λ e. left.announcement (is_some _ e))
 
       by : (b : Bool) → eqb (row_at m i).count 0 ≡ b
@@ -186,7 +186,7 @@ module _ (m : Machine) (sized : Sized m) (i : ℕ) (free : Free m i) where
 
   own_made : (f : ℕ) → OwnFuture m i f → (o : Outcome) → (future_at m f).outcome ≡ o → Made m (evaluate_own m i f o).machine (evaluate_own_events m i f o)
   unfolding evaluate_own evaluate_waiting
-  own_made f own outcome.Waiting e =
+  own_made f own None e =
       decided_made (lacking (evaluate_needs (row_at m i)) m.used m.nodes (row_at m i).count) m _ _
       (λ q. one_made m (BatchSetOff i f) (record {
         free = free;
@@ -194,18 +194,10 @@ module _ (m : Machine) (sized : Sized m) (i : ℕ) (free : Free m i) where
         waits = e;
         announcement = λ ne. (nothing_lacks (evaluate_needs (row_at m i)) m.used m.nodes (row_at m i).count q).announcement (is_some _ ne);
       }))
-  own_made f own outcome.Ok e = one_made m (FutureAsked i f) (record { free = free; own = own; done = λ q. ok_waits_not (sym e ∙ q) })
+  own_made f own (Some result) e = one_made m (FutureAsked i f) (record { free = free; own = own; done = λ q. done_waits_not (sym e ∙ q) })
     where
-      ok_waits_not : outcome.Ok ≡ outcome.Waiting → ⊥
-      ok_waits_not q = let z : ◌≡◌ {A = ℕ} 0 1 = cc in omega arith
-  own_made f own (outcome.Item v) e = one_made m (FutureAsked i f) (record { free = free; own = own; done = λ q. item_waits_not (sym e ∙ q) })
-    where
-      item_waits_not : outcome.Item v ≡ outcome.Waiting → ⊥
-      item_waits_not q = let z : ◌≡◌ {A = ℕ} 0 1 = cc in omega arith
-  own_made f own outcome.Empty e = one_made m (FutureAsked i f) (record { free = free; own = own; done = λ q. empty_waits_not (sym e ∙ q) })
-    where
-      empty_waits_not : outcome.Empty ≡ outcome.Waiting → ⊥
-      empty_waits_not q = let z : ◌≡◌ {A = ℕ} 0 1 = cc in omega arith
+      done_waits_not : Some result ≡ None → ⊥
+      done_waits_not q = let z : ◌≡◌ {A = ℕ} 0 1 = cc in omega arith
 
 module _ (m : Machine) (sized : Sized m) where
   small : (t : ℕ) → t % 8 < 8

@@ -2,7 +2,6 @@
 -- handed out in number order and paying one leaves its flag, so what other threads do leaves the flags of a thread's pending calls as they are.
 use Prim.Native.Nat.{ℕ, suc, ◌+◌, ◌%◌, ◌<◌, ◌≤◌}
 use mathlib.Core.Path.{◌≡◌, sym, ap, ◌∙◌, subst}
-use mathlib.Core.Bool.{Bool}
 use mathlib.Core.List.{List, [], ◌∷◌, ◌++◌}
 use mathlib.Core.Logic.{⊎_elim, ◌≢◌}
 use native.Mathlib.Omega.{arith}
@@ -16,6 +15,7 @@ use Rattle.tally.specs.Fifo.{Call}
 use Rattle.tally.specs.Tally.{up}
 use Rattle.row.specs.declared.Row.{Row}
 use Rattle.answer.specs.declared.Future.{Future}
+use Rattle.answer.specs.declared.Operation.{Operation}
 use Rattle.next.specs.Next.{next_future}
 use Rattle.machine.specs.declared.Machine.{Machine}
 use Rattle.machine.specs.State.{row_at, no_future}
@@ -23,12 +23,12 @@ use Rattle.laws.proofs.HandedOut.{futures_in_order}
 use Rattle.order.proofs.RowPut.{put_here, put_elsewhere}
 use Rattle.order.proofs.Ghost.{Ghost, pending_of}
 use Rattle.order.proofs.Steps.{Ok}
-use Rattle.order.proofs.PairingCounts.{is_enqueue, Flagged}
+use Rattle.order.proofs.PairingCounts.{operation_of, Flagged}
 
 pub record FlagsOf (fs : List Future) (used : ℕ) (pending : List ℕ) (cs : List (Call ℕ)) : Type 0 where
   pub places : length pending ≡ 32
   pub handed_out : (j : ℕ) (c : Call ℕ) → At cs j c → get_or pending j 0 < used
-  pub flagged : (j : ℕ) (c : Call ℕ) → At cs j c → (get_or fs (get_or pending j 0 % 512) no_future).enqueue ≡ is_enqueue c
+  pub flagged : (j : ℕ) (c : Call ℕ) → At cs j c → (get_or fs (get_or pending j 0 % 512) no_future).operation ≡ operation_of c
 
 pub record Flags (m : Machine) (g : Ghost) : Type 0 where
   pub each : (t : ℕ) → t < 8 → FlagsOf m.futures m.used.futures (row_at m t).pending (pending_of g t)
@@ -39,7 +39,7 @@ pub record Flags (m : Machine) (g : Ghost) : Type 0 where
 -- futures that were handed out keep their flags
 pub record Carries (fs : List Future) (used : ℕ) (fs' : List Future) (used' : ℕ) : Type 0 where
   pub more : used ≤ used'
-  pub same : (k : ℕ) → k < used → (get_or fs' (k % 512) no_future).enqueue ≡ (get_or fs (k % 512) no_future).enqueue
+  pub same : (k : ℕ) → k < used → (get_or fs' (k % 512) no_future).operation ≡ (get_or fs (k % 512) no_future).operation
   pub long : length fs' ≡ length fs
   pub room : used ≤ 512 → used' ≤ 512
 
@@ -83,13 +83,13 @@ module _ (fs : List Future) (used : ℕ) (x : Future) (left : used < 512) where
   one_more_future : Carries fs used (set fs used x) (suc used)
   one_more_future = record {
     more = omega arith;
-    same = λ k h. ap (λ (f : Future). f.enqueue) (get_or-set_other fs used (k % 512) x no_future (λ e. omega arith));
+    same = λ k h. ap (λ (f : Future). f.operation) (get_or-set_other fs used (k % 512) x no_future (λ e. omega arith));
     long = length-set fs used x;
     room = λ h. omega arith;
   }
 
   module _ (pending : List ℕ) (cs : List (Call ℕ)) (h : FlagsOf fs used pending cs) (long : length fs ≡ 512) (count : ℕ) (counted : count ≡ length cs) (few : count < 32)
-      (c : Call ℕ) (is : x.enqueue ≡ is_enqueue c) where
+      (c : Call ℕ) (is : x.operation ≡ operation_of c) where
     earlier : (j : ℕ) (y : Call ℕ) → At cs j y → get_or (set pending (count % 32) used) j 0 ≡ get_or pending j 0
     earlier j y p = get_or-set_other pending (count % 32) j used 0 (λ e. omega (arith, within cs j p, counted))
 
@@ -98,13 +98,13 @@ module _ (fs : List Future) (used : ℕ) (x : Future) (left : used < 512) where
         ap (λ (k : ℕ). get_or (set pending (count % 32) used) k 0) (let q : j ≡ count % 32 = omega (arith, e, counted) in q)
         ∙ get_or-set_same pending (count % 32) used 0 (omega (arith, h.places))
 
-    abbrev flag : ℕ → Bool
-    flag k = (get_or (set fs used x) (k % 512) no_future).enqueue
+    abbrev flag : ℕ → Operation
+    flag k = (get_or (set fs used x) (k % 512) no_future).operation
 
-    new_flag : flag used ≡ is_enqueue c
+    new_flag : flag used ≡ operation_of c
     new_flag =
-        ap (λ (k : ℕ). (get_or (set fs used x) k no_future).enqueue) (mod-eq_of_lt left)
-        ∙ ap (λ (f : Future). f.enqueue) (get_or-set_same fs used x no_future (omega (arith, long))) ∙ is
+        ap (λ (k : ℕ). (get_or (set fs used x) k no_future).operation) (mod-eq_of_lt left)
+        ∙ ap (λ (f : Future). f.operation) (get_or-set_same fs used x no_future (omega (arith, long))) ∙ is
 
     one_more_flag : FlagsOf (set fs used x) (suc used) (set pending (count % 32) used) (cs ++ (c ∷ []))
     one_more_flag = record {
@@ -112,7 +112,7 @@ module _ (fs : List Future) (used : ℕ) (x : Future) (left : used < 512) where
       handed_out = λ j y p. ⊎_elim (λ w. omega (arith, earlier j y w, h.handed_out j y w)) (λ w. omega (arith, new j w.0)) (there_or_at_the_end cs c j p);
       flagged = λ j y p. ⊎_elim
           (λ w. ap flag (earlier j y w) ∙ one_more_future.same (get_or pending j 0) (h.handed_out j y w) ∙ h.flagged j y w)
-          (λ w. ap flag (new j w.0) ∙ new_flag ∙ sym (ap is_enqueue w.1))
+          (λ w. ap flag (new j w.0) ∙ new_flag ∙ sym (ap operation_of w.1))
           (there_or_at_the_end cs c j p);
     }
 
@@ -128,13 +128,13 @@ module _ (m : Machine) (g : Ghost) (ok : Ok m g) (h : Flags m g) (i : ℕ) (lt :
       kept : Carries m.futures m.used.futures m'.futures m'.used.futures
       kept = record {
         more = omega (arith, used);
-        same = λ k p. ap (λ (l : List Future). (get_or l (k % 512) no_future).enqueue) fs;
+        same = λ k p. ap (λ (l : List Future). (get_or l (k % 512) no_future).operation) fs;
         long = ap length fs;
         room = λ p. omega (arith, used);
       }
 
   -- a call is deferred
-  pub deferred : (c : Call ℕ) (x : Future) → x.enqueue ≡ is_enqueue c → m.used.futures < 512 → (row_at m i).count < 32 → (m' : Machine) (g' : Ghost) (row : Row)
+  pub deferred : (c : Call ℕ) (x : Future) → x.operation ≡ operation_of c → m.used.futures < 512 → (row_at m i).count < 32 → (m' : Machine) (g' : Ghost) (row : Row)
       → m'.rows ≡ set m.rows i row → row.pending ≡ set (row_at m i).pending ((row_at m i).count % 32) (next_future m.used) → row.future ≡ (row_at m i).future
       → m'.futures ≡ set m.futures (next_future m.used) x → m'.used.futures ≡ up m.used.futures → g'.pending ≡ set g.pending i (pending_of g i ++ (c ∷ [])) → Flags m' g'
   deferred c x is left few m' g' row put pending same fs used calls =
@@ -170,4 +170,4 @@ module _ (m : Machine) (g : Ghost) (ok : Ok m g) (h : Flags m g) (i : ℕ) (lt :
 pub flagged_here : (m : Machine) (g : Ghost) → Ok m g → Flags m g → (t : ℕ) → t < 8 → Flagged (row_at m t).pending m.futures (pending_of g t)
 flagged_here m g ok flags t lt j c p =
     let place : (0 + j) % 32 ≡ j = omega (arith, within (pending_of g t) j p, (ok.knows t lt).tallied.few) in
-    ap (λ (k : ℕ). (get_or m.futures (get_or (row_at m t).pending k 0 % 512) no_future).enqueue) place ∙ (flags.each t lt).flagged j c p
+    ap (λ (k : ℕ). (get_or m.futures (get_or (row_at m t).pending k 0 % 512) no_future).operation) place ∙ (flags.each t lt).flagged j c p

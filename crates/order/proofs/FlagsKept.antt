@@ -1,11 +1,11 @@
 -- Every event leaves the futures of the pending calls flagged as the calls are.
 use Prim.Native.Nat.{ℕ, ◌%◌, ◌<◌}
 use mathlib.Core.Path.{◌≡◌, refl, sym, ap, ◌∙◌, subst}
-use mathlib.Core.Bool.{Bool, true, false}
 use mathlib.Core.List.{List, []}
 use native.Mathlib.Omega.{arith}
 use lib.ListN.{length, length-set, length-replicate, get_or-replicate}
 use lib.Seq.{get_or-set_same, get_or-set_other}
+use Rattle.std.specs.Prelude.{None}
 use Rattle.chain.specs.Positions.{At}
 use Rattle.chain.proofs.Positions.{within}
 use Rattle.tally.specs.Fifo.{Call, enqueue, dequeue}
@@ -20,7 +20,8 @@ use Rattle.place.specs.Place.{place_after}
 use Rattle.row.specs.declared.Row.{Row}
 use Rattle.row.specs.Row.{placed, calling, cleared, with_enqueue, with_dequeue, fresh_row, no_row}
 use Rattle.answer.specs.declared.Item.{Item}
-use Rattle.answer.specs.declared.Outcome.TheVariants as outcome
+use Rattle.answer.specs.declared.Operation.TheVariants as operation
+use Rattle.answer.specs.declared.Operation.{Operation}
 use Rattle.pairing.specs.declared.Cursor.{Cursor}
 use Rattle.next.specs.Next.{next_node, next_future, next_announcement}
 use Rattle.machine.specs.declared.Machine.{Machine}
@@ -73,7 +74,7 @@ module _ (m : Machine) (g : Ghost) (ok : Ok m g) (h : Flags m g) (i : ℕ) (lt :
       paid : Carries m₁.futures m₁.used.futures (settled m₁ i 1 c).machine.futures m₁.used.futures
       paid =
           let kept = pair_keeps m₁.links m₁.items (row_at m₁ i).last (row_at m₁ i).pending ((row_at m₁ i).count % 33) 0 m₁.futures c in
-          record { more = omega arith; same = λ k p. ap (λ (x : ℕ × Bool). x.1) (kept.0 (k % 512)); long = kept.1; room = λ p. p }
+          record { more = omega arith; same = λ k p. ap (λ (x : ℕ × Operation). x.1) (kept.0 (k % 512)); long = kept.1; room = λ p. p }
 
   step_flags : Flags (step_of m i).machine (step_of_ghost m g i)
   step_flags = ended (hop m i).after
@@ -91,13 +92,13 @@ module _ (m : Machine) (g : Ghost) (ok : Ok m g) (h : Flags m g) (i : ℕ) (lt :
   deferred_enqueue_flags : (v : Item) → m.used.futures < 512 → (row_at m i).count < 32 → Flags (defer_enqueue m i v) (defer_enqueue_ghost g i v.value)
   unfolding defer_enqueue linked_behind
   deferred_enqueue_flags v left few =
-      deferred m g ok h i lt (enqueue v.value) (record { owner = i; enqueue = true; outcome = outcome.Waiting }) refl left few _ _
+      deferred m g ok h i lt (enqueue v.value) (record { owner = i; operation = operation.Enqueue; outcome = None }) refl left few _ _
       (with_enqueue (row_at m i) (next_future m.used) (next_node m.used)) refl refl refl refl refl refl
 
   deferred_dequeue_flags : m.used.futures < 512 → (row_at m i).count < 32 → Flags (defer_dequeue m i) (defer_dequeue_ghost g i)
   unfolding defer_dequeue
   deferred_dequeue_flags left few =
-      deferred m g ok h i lt dequeue (record { owner = i; enqueue = false; outcome = outcome.Waiting }) refl left few _ _
+      deferred m g ok h i lt dequeue (record { owner = i; operation = operation.Dequeue; outcome = None }) refl left few _ _
       (with_dequeue (row_at m i) (next_future m.used)) refl refl refl refl refl refl
 
   set_off_flags : (f : ℕ) → f < 512 → Flags (set_off m i f) (set_off_ghost m g i)

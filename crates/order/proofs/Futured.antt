@@ -7,12 +7,12 @@ use mathlib.Core.List.{List, [], map}
 use mathlib.Core.Option.{none, some}
 use mathlib.Core.Logic.{◌⊎◌, ◌≢◌}
 use lib.ListN.{length, get_or}
+use Rattle.std.specs.Prelude.{None}
 use Rattle.chain.specs.Positions.{At, In}
 use Rattle.tally.specs.Fifo.{Result}
 use Rattle.place.specs.declared.Place.TheVariants.{Idle}
 use Rattle.place.specs.declared.After.{After}
 use Rattle.place.specs.declared.After.TheVariants as afterwards
-use Rattle.answer.specs.declared.Outcome.TheVariants.{Waiting}
 use Rattle.pairing.specs.declared.Cursor.{Cursor}
 use Rattle.machine.specs.declared.Machine.{Machine}
 use Rattle.machine.specs.State.{row_at, future_at}
@@ -32,7 +32,7 @@ use Rattle.order.proofs.Orderly.{NotIn, BatchCall}
 pub record Held (m : Machine) (t j f : ℕ) : Type 0 where
   pub place : get_or (row_at m t).pending j 0 ≡ f
   pub own : OwnFuture m t f
-  pub waits : (future_at m f).outcome ≡ Waiting
+  pub waits : (future_at m f).outcome ≡ None
 
 pub record PendingFutures (m : Machine) (g : Ghost) (s : Story) (t : ℕ) : Type 0 where
   pub calls : (of s t).calls ≡ pending_of g t
@@ -58,11 +58,11 @@ future_given t f r now = record { thread = t; future = some f; began = none; res
 pub record Futured (m : Machine) (g : Ghost) (s : Story) : Type 0 where
   pub threads : length s.threads ≡ 8
   pub each : (t : ℕ) → t < 8 → PendingFutures m g s t
-  pub waiting : (f : ℕ) → f < m.used.futures → (future_at m f).outcome ≡ Waiting → ((future_at m f).owner < 8) × In (of s (future_at m f).owner).futures f
+  pub waiting : (f : ℕ) → f < m.used.futures → (future_at m f).outcome ≡ None → ((future_at m f).owner < 8) × In (of s (future_at m f).owner).futures f
   pub done : (f : ℕ) (r : Result ℕ) → f < m.used.futures → (future_at m f).outcome ≡ outcome_of r → Stands s.order (future_given (future_at m f).owner f r s.clock)
   pub given : (j : ℕ) (x : Given) → At s.given j x → Stands s.order x
   pub rows : (j a f : ℕ) (x : Effect) → At s.order j x → At x.call.futures a f
-      → OwnFuture m x.call.thread f × (((future_at m f).outcome ≢ Waiting) ⊎ BatchInCall m s x.call)
+      → OwnFuture m x.call.thread f × (((future_at m f).outcome ≢ None) ⊎ BatchInCall m s x.call)
   pub once_each : (j k a b f : ℕ) (x y : Effect) → At s.order j x → At s.order k y → At x.call.futures a f → At y.call.futures b f → (j ≡ k) × (a ≡ b)
   -- a batch with an announcement that has not been linked is still going on
   pub going : (a : ℕ) (c : Called) → NotLinked g a → At s.announced a c → BatchInCall m s c

@@ -9,13 +9,13 @@ use native.Mathlib.Omega.{arith}
 use native.Mathlib.Decide.{dec_lt}
 use lib.ListN.{length, get_or, set}
 use lib.Seq.{get_or-set_same, get_or-set_other}
+use Rattle.std.specs.Prelude.{None}
 use Rattle.chain.specs.Positions.{At, In}
 use Rattle.chain.proofs.Positions.{within, stays, at_the_end, length-one_more, there_or_at_the_end}
 use Rattle.tally.specs.Fifo.{Call}
 use Rattle.tally.specs.Tally.{up}
 use Rattle.row.specs.declared.Row.{Row}
 use Rattle.answer.specs.declared.Future.{Future}
-use Rattle.answer.specs.declared.Outcome.TheVariants.{Waiting}
 use Rattle.next.specs.Next.{next_future}
 use Rattle.machine.specs.declared.Machine.{Machine}
 use Rattle.machine.specs.State.{row_at, no_future, future_at}
@@ -29,7 +29,7 @@ use Rattle.order.proofs.Futured.{Held, PendingFutures, Futured}
 use Rattle.order.proofs.FuturesKept.{Puts, row_here, remembered_here, FuturesLeft}
 
 module _ (m : Machine) (g : Ghost) (s : Story) (holds : Holds m g) (h : Futured m g s) (i : ℕ) (room : m.used.futures < 512) (few : (row_at m i).count < 32)
-    (c : Call ℕ) (x : Future) (owner : x.owner ≡ i) (waits : x.outcome ≡ Waiting)
+    (c : Call ℕ) (x : Future) (owner : x.owner ≡ i) (waits : x.outcome ≡ None)
     (m' : Machine) (g' : Ghost) (s' : Story) (row : Row) (r : Remembered) (p : Puts m s i m' s' row r)
     (places : row.pending ≡ set (row_at m i).pending ((row_at m i).count % 32) (next_future m.used))
     (calls : r.calls ≡ (of s i).calls ++ (c ∷ [])) (held : r.futures ≡ (of s i).futures ++ (next_future m.used ∷ []))
@@ -119,7 +119,7 @@ module _ (m : Machine) (g : Ghost) (s : Story) (holds : Holds m g) (h : Futured 
   handed_out : (f : ℕ) → f < m'.used.futures → (f < next) ⊎ (f ≡ next)
   handed_out f lt = elim (dec_lt f next) [ yes l ↦ inl l | no ge ↦ inr (omega (arith, one_more)) ]
 
-  waiting_now : (f : ℕ) → OwnFuture m' i f → (future_at m' f).outcome ≡ Waiting → In (of s' i).futures f
+  waiting_now : (f : ℕ) → OwnFuture m' i f → (future_at m' f).outcome ≡ None → In (of s' i).futures f
   waiting_now f own e =
       subst (λ (l : List ℕ). In l f) (sym futures_are)
       (⊎_elim {C = In ((of s i).futures ++ (next ∷ [])) f}

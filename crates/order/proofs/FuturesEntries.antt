@@ -3,7 +3,6 @@
 -- stands for it.
 use Prim.Native.Nat.{ℕ, ◌%◌, ◌<◌, ◌≤◌}
 use mathlib.Core.Path.{◌≡◌, refl, sym, ap, ◌∙◌, subst}
-use mathlib.Core.Bool.{true, false}
 use mathlib.Core.List.{List, [], ◌∷◌, ◌++◌}
 use mathlib.Core.Option.{Option, none, some}
 use mathlib.Core.Logic.{◌⊎◌, inl, inr, ⊎_elim, ◌≢◌}
@@ -11,6 +10,7 @@ use native.Mathlib.Omega.{arith}
 use lib.Dec.{eqb}
 use lib.ListN.{length, set, length-replicate, get_or-replicate}
 use lib.Seq.{set-get_or}
+use Rattle.std.specs.Prelude.{None}
 use Rattle.refusal.proofs.Tests.{either_way}
 use Rattle.chain.specs.Positions.{at, At}
 use Rattle.chain.proofs.Positions.{within, in_either, there_or_at_the_end, none_is_not_some}
@@ -27,9 +27,10 @@ use Rattle.place.specs.declared.DequeuesStep.TheVariants.{Q1}
 use Rattle.row.specs.declared.Row.{Row}
 use Rattle.row.specs.Row.{placed, calling, with_enqueue, with_dequeue, no_row}
 use Rattle.answer.specs.declared.Future.{Future}
-use Rattle.answer.specs.declared.Outcome.TheVariants.{Waiting}
 use Rattle.next.specs.Next.{next_node, next_future, next_announcement}
 use Rattle.answer.specs.Answer.{answered}
+use Rattle.answer.specs.declared.Operation.TheVariants as operation
+use Rattle.std.specs.declared.result.Result.TheVariants as reply
 use Rattle.machine.specs.declared.Machine.{Machine}
 use Rattle.machine.specs.State.{row_at, fresh_machine, future_at}
 use Rattle.machine.specs.Entries.{linked_behind, defer_enqueue, defer_dequeue}
@@ -119,7 +120,7 @@ module _ (m : Machine) (g : Ghost) (s : Story) (holds : Holds m g) (h : Futured 
   deferred_now c = also_pending (of s i) c (next_future m.used)
 
   module _ (room : m.used.futures < 512) (few : (row_at m i).count < 32) where
-    deferred_futured : (c : Call ℕ) (x : Future) → x.owner ≡ i → x.outcome ≡ Waiting → (m' : Machine) (g' : Ghost) (row : Row) → m'.rows ≡ set m.rows i row
+    deferred_futured : (c : Call ℕ) (x : Future) → x.owner ≡ i → x.outcome ≡ None → (m' : Machine) (g' : Ghost) (row : Row) → m'.rows ≡ set m.rows i row
         → row.pending ≡ set (row_at m i).pending ((row_at m i).count % 32) (next_future m.used) → m'.futures ≡ set m.futures (next_future m.used) x
         → m'.used.futures ≡ up m.used.futures → g'.pending ≡ set g.pending i (pending_of g i ++ (c ∷ [])) → g'.by ≡ g.by
         → Futured m' g' (defers s i c (next_future m.used))
@@ -134,18 +135,18 @@ module _ (m : Machine) (g : Ghost) (s : Story) (holds : Holds m g) (h : Futured 
     enqueue_deferred : (v : ℕ) → Futured (does m (EnqueueDeferred i v)) (ghost_does m g (EnqueueDeferred i v)) (happens m s (EnqueueDeferred i v))
     unfolding defer_enqueue linked_behind
     enqueue_deferred v =
-        deferred_futured (enqueue v) (record { owner = i; enqueue = true; outcome = Waiting }) refl refl _ _
+        deferred_futured (enqueue v) (record { owner = i; operation = operation.Enqueue; outcome = None }) refl refl _ _
         (with_enqueue (row_at m i) (next_future m.used) (next_node m.used)) refl refl refl refl refl refl
 
     dequeue_deferred : Futured (does m (DequeueDeferred i)) (ghost_does m g (DequeueDeferred i)) (happens m s (DequeueDeferred i))
     unfolding defer_dequeue
     dequeue_deferred =
-        deferred_futured dequeue (record { owner = i; enqueue = false; outcome = Waiting }) refl refl _ _
+        deferred_futured dequeue (record { owner = i; operation = operation.Dequeue; outcome = None }) refl refl _ _
         (with_dequeue (row_at m i) (next_future m.used)) refl refl refl refl refl refl
 
   -- a result is given
-  module _ (f : ℕ) (own : OwnFuture m i f) (done : (future_at m f).outcome ≢ Waiting) where
-    asked_stands : (j : ℕ) (x : Given) → At (gives i (some f) none s.clock (answered (future_at m f).outcome)) j x → Stands s.order x
+  module _ (f : ℕ) (own : OwnFuture m i f) (done : (future_at m f).outcome ≢ None) where
+    asked_stands : (j : ℕ) (x : Given) → At (gives i (some f) none s.clock (reply.Ok (answered (future_at m f).outcome))) j x → Stands s.order x
     asked_stands j x q = ⊎_elim {C = Stands s.order x} (λ e. absurd (done e)) (λ w. stands w.0 w.1) (waits_or_done (future_at m f).outcome)
       where
         stands : (r : Result ℕ) → (future_at m f).outcome ≡ outcome_of r → Stands s.order x

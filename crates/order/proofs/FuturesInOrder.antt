@@ -7,9 +7,9 @@ use mathlib.Core.Logic.{◌⊎◌, inr, ⊎_elim, ◌≢◌}
 use native.Mathlib.Omega.{arith}
 use native.Mathlib.Decide.{dec_lt}
 use lib.ListN.{length}
+use Rattle.std.specs.Prelude.{None}
 use Rattle.chain.specs.Positions.{At, In}
 use Rattle.chain.proofs.Positions.{within, one_element}
-use Rattle.answer.specs.declared.Outcome.TheVariants.{Waiting}
 use Rattle.machine.specs.declared.Machine.{Machine}
 use Rattle.order.specs.Order.{Called, Effect, Given, Story, of}
 use Rattle.order.specs.PlainQueue.{Ran, ran, Stands}
@@ -96,10 +96,10 @@ module _ (m : Machine) (g : Ghost) (s : Story) (h : Futured m g s) where
 
     -- a future of a call that took effect is its thread's own, and done, or the call that its thread is in has it
     pub owned_after : (j a f : ℕ) (y : Effect) → At order' j y → At y.call.futures a f
-        → OwnFuture m y.call.thread f × (((future_at m f).outcome ≢ Waiting) ⊎ BatchInCall m s y.call)
+        → OwnFuture m y.call.thread f × (((future_at m f).outcome ≢ None) ⊎ BatchInCall m s y.call)
     owned_after j a f y p q = ⊎_elim (λ e. h.rows j a f y (subst (λ (o : List Effect). At o j y) e p) q) (λ w. new w.0 w.1) after
       where
-        new : (x : Effect) → TakesEffect m s order' x → OwnFuture m y.call.thread f × (((future_at m f).outcome ≢ Waiting) ⊎ BatchInCall m s y.call)
+        new : (x : Effect) → TakesEffect m s order' x → OwnFuture m y.call.thread f × (((future_at m f).outcome ≢ None) ⊎ BatchInCall m s y.call)
         new x w =
             ⊎_elim (λ v. h.rows v.0 a f y v.1 q)
             (λ e.

@@ -9,12 +9,12 @@ use native.Mathlib.Omega.{arith}
 use native.Mathlib.Decide.{ℕ_discrete}
 use lib.ListN.{length, get_or, set, length-set}
 use lib.Seq.{get_or-set_same, get_or-set_other}
+use Rattle.std.specs.Prelude.{None}
 use Rattle.chain.specs.Positions.{At, In}
 use Rattle.tally.specs.Fifo.{Call, Result}
 use Rattle.place.specs.declared.Place.TheVariants.{Idle}
 use Rattle.row.specs.declared.Row.{Row}
 use Rattle.answer.specs.declared.Future.{Future}
-use Rattle.answer.specs.declared.Outcome.TheVariants.{Waiting}
 use Rattle.machine.specs.declared.Machine.{Machine}
 use Rattle.machine.specs.State.{row_at, no_future, future_at}
 use Rattle.order.specs.Order.{Called, Effect, Given, Remembered, Story, of, nothing_remembered}
@@ -72,12 +72,12 @@ pub record FuturesLeft (m : Machine) (g : Ghost) (s : Story) (i : ℕ) (m' : Mac
   -- those handed out before keep their owners, and stay as they are but for those that waited for thread i; a new one is thread i's
   pub more : m.used.futures ≤ m'.used.futures
   pub owners : (f : ℕ) → f < m.used.futures → (future_at m' f).owner ≡ (future_at m f).owner
-  pub kept : (f : ℕ) → f < m.used.futures → ((future_at m f).owner ≢ i) ⊎ ((future_at m f).outcome ≢ Waiting) → future_at m' f ≡ future_at m f
+  pub kept : (f : ℕ) → f < m.used.futures → ((future_at m f).owner ≢ i) ⊎ ((future_at m f).outcome ≢ None) → future_at m' f ≡ future_at m f
   pub new : (f : ℕ) → f < m'.used.futures → (future_at m' f).owner ≢ i → f < m.used.futures
   -- pending calls: those of the others, and thread i's
   pub others : (u : ℕ) → u ≢ i → pending_of g' u ≡ pending_of g u
   pub mine : PendingFutures m' g' s' i
-  pub waiting : (f : ℕ) → OwnFuture m' i f → (future_at m' f).outcome ≡ Waiting → In (of s' i).futures f
+  pub waiting : (f : ℕ) → OwnFuture m' i f → (future_at m' f).outcome ≡ None → In (of s' i).futures f
   -- one that is done was so before, or its result stands
   pub results : (f : ℕ) (r : Result ℕ) → f < m'.used.futures → (future_at m' f).outcome ≡ outcome_of r
       → ((f < m.used.futures) × ((future_at m f).outcome ≡ outcome_of r)) ⊎ Stands s'.order (future_given (future_at m' f).owner f r s'.clock)
@@ -87,7 +87,7 @@ pub record StoryLeft (m : Machine) (g : Ghost) (s : Story) (i : ℕ) (m' : Machi
   pub later : s.clock ≤ s'.clock
   pub order : OrderAfter m s s'.order
   pub given : (j : ℕ) (x : Given) → At s'.given j x → At s.given j x ⊎ Stands s'.order x
-  pub ended : (c : Called) → BatchInCall m s c → c.thread ≡ i → (a f : ℕ) → At c.futures a f → ((future_at m' f).outcome ≢ Waiting) ⊎ BatchInCall m' s' c
+  pub ended : (c : Called) → BatchInCall m s c → c.thread ≡ i → (a f : ℕ) → At c.futures a f → ((future_at m' f).outcome ≢ None) ⊎ BatchInCall m' s' c
   pub unlinked : (a : ℕ) → NotLinked g' a → NotLinked g a
   pub announced : (a : ℕ) (c : Called) → At s'.announced a c → At s.announced a c ⊎ BatchInCall m' s' c
   pub going : (a : ℕ) (c : Called) → NotLinked g' a → At s.announced a c → BatchInCall m s c → c.thread ≡ i → BatchInCall m' s' c
@@ -140,7 +140,7 @@ module _ (m : Machine) (g : Ghost) (s : Story) (h : Futured m g s) (i : ℕ) (m'
       held_same : (of s' i).futures ≡ (of s i).futures
       held_same = ap (λ (x : Remembered). x.futures) (remembered_here p) ∙ held
 
-      waiting : (f : ℕ) → OwnFuture m' i f → (future_at m' f).outcome ≡ Waiting → In (of s i).futures f
+      waiting : (f : ℕ) → OwnFuture m' i f → (future_at m' f).outcome ≡ None → In (of s i).futures f
       waiting f own waits =
           subst (λ (u : ℕ). In (of s u).futures f) (sym (ap (λ (x : Future). x.owner) (same f)) ∙ own.owner)
           (h.waiting f (omega (arith, own.handed_out, used)) (sym (ap (λ (x : Future). x.outcome) (same f)) ∙ waits)).1
@@ -155,7 +155,7 @@ module _ (m : Machine) (g : Ghost) (s : Story) (h : Futured m g s) (i : ℕ) (m'
   still_own : (t f : ℕ) → OwnFuture m t f → OwnFuture m' t f
   still_own t f w = record { handed_out = omega (arith, w.handed_out, left.more); owner = left.owners f w.handed_out ∙ w.owner }
 
-  still_done : (f : ℕ) → f < m.used.futures → (future_at m f).outcome ≢ Waiting → (future_at m' f).outcome ≢ Waiting
+  still_done : (f : ℕ) → f < m.used.futures → (future_at m f).outcome ≢ None → (future_at m' f).outcome ≢ None
   still_done f lt done e = done (sym (ap (λ (x : Future). x.outcome) (left.kept f lt (inr done))) ∙ e)
 
   still_in_call : (c : Called) → BatchInCall m s c → c.thread ≢ i → BatchInCall m' s' c
@@ -174,7 +174,7 @@ module _ (m : Machine) (g : Ghost) (s : Story) (h : Futured m g s) (i : ℕ) (m'
       same_pending m g s t m' g' s' (h.each t lt) (ap (λ (x : Remembered). x.calls) same) (ap (λ (x : Remembered). x.futures) same) (left.others t ne)
       (ap (λ (x : Row). x.pending) (row_elsewhere p t ne)) left.more (λ f w. left.kept f w.handed_out (inl (λ e. ne (sym w.owner ∙ e))))
 
-  waiting_after : (f : ℕ) → f < m'.used.futures → (future_at m' f).outcome ≡ Waiting → ((future_at m' f).owner < 8) × In (of s' (future_at m' f).owner).futures f
+  waiting_after : (f : ℕ) → f < m'.used.futures → (future_at m' f).outcome ≡ None → ((future_at m' f).owner < 8) × In (of s' (future_at m' f).owner).futures f
   waiting_after f lt waits =
       elim (ℕ_discrete (future_at m' f).owner i) [
         | yes e ↦ (omega (arith, p.small), subst (λ (u : ℕ). In (of s' u).futures f) (sym e) (left.waiting f (record { handed_out = lt; owner = e }) waits))
@@ -198,13 +198,13 @@ module _ (m : Machine) (g : Ghost) (s : Story) (h : Futured m g s) (i : ℕ) (m'
       (left.results f o lt e)
 
   rows_after : (j a f : ℕ) (x : Effect) → At s'.order j x → At x.call.futures a f
-      → OwnFuture m' x.call.thread f × (((future_at m' f).outcome ≢ Waiting) ⊎ BatchInCall m' s' x.call)
+      → OwnFuture m' x.call.thread f × (((future_at m' f).outcome ≢ None) ⊎ BatchInCall m' s' x.call)
   rows_after j a f x there q = (still_own x.call.thread f w.0, ⊎_elim (λ done. inl (still_done f w.0.handed_out done)) in_call_lem w.1)
     where
-      w : OwnFuture m x.call.thread f × (((future_at m f).outcome ≢ Waiting) ⊎ BatchInCall m s x.call)
+      w : OwnFuture m x.call.thread f × (((future_at m f).outcome ≢ None) ⊎ BatchInCall m s x.call)
       w = owned_after m g s h s'.order story.order j a f x there q
 
-      in_call_lem : BatchInCall m s x.call → ((future_at m' f).outcome ≢ Waiting) ⊎ BatchInCall m' s' x.call
+      in_call_lem : BatchInCall m s x.call → ((future_at m' f).outcome ≢ None) ⊎ BatchInCall m' s' x.call
       in_call_lem c = elim (ℕ_discrete x.call.thread i) [ yes e ↦ story.ended x.call c e a f q | no ne ↦ inr (still_in_call x.call c ne) ]
 
   going_after : (a : ℕ) (c : Called) → NotLinked g' a → At s'.announced a c → BatchInCall m' s' c

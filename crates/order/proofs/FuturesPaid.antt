@@ -10,6 +10,7 @@ use native.Mathlib.Nat.{mod-eq_of_lt}
 use native.Mathlib.Decide.{ℕ_discrete}
 use lib.ListN.{length, get_or, length-map}
 use lib.Seq.{get_or-set_same, get_or-set_other}
+use Rattle.std.specs.Prelude.{None}
 use Rattle.chain.specs.Positions.{at, At, In}
 use Rattle.chain.proofs.Positions.{none_is_not_some, some_injective, within, element, at_map}
 use Rattle.tally.specs.Fifo.{Call, Result}
@@ -17,8 +18,7 @@ use Rattle.place.specs.Place.{place_after}
 use Rattle.row.specs.declared.Row.{Row}
 use Rattle.row.specs.Row.{placed, cleared}
 use Rattle.answer.specs.declared.Future.{Future}
-use Rattle.answer.specs.declared.Outcome.{Outcome}
-use Rattle.answer.specs.declared.Outcome.TheVariants.{Waiting}
+use Rattle.answer.specs.Answer.{Outcome}
 use Rattle.pairing.specs.declared.Cursor.{Cursor}
 use Rattle.machine.specs.declared.Machine.{Machine}
 use Rattle.machine.specs.State.{row_at, memory_of, no_future, future_at}
@@ -112,7 +112,7 @@ module _ (m : Machine) (g : Ghost) (s : Story) (holds : Holds m g) (h : Futured 
       r = element ends.results j (omega (arith, within (of s i).futures j q, all_paid, as_many_results))
 
   -- the futures of others, and those that were done before, stay
-  untouched : (f : ℕ) → f < m.used.futures → ((future_at m f).owner ≢ i) ⊎ ((future_at m f).outcome ≢ Waiting) → future_at m' f ≡ future_at m f
+  untouched : (f : ℕ) → f < m.used.futures → ((future_at m f).owner ≢ i) ⊎ ((future_at m f).outcome ≢ None) → future_at m' f ≡ future_at m f
   unfolding settled pairing
   untouched f l other =
       other_future m₁.links m₁.items (row_at m₁ i).last (row_at m₁ i).pending paid few small m₁.futures c (f % 512) not_paid
@@ -139,10 +139,10 @@ module _ (m : Machine) (g : Ghost) (s : Story) (holds : Holds m g) (h : Futured 
   none_handed_out = refl
 
   -- a future that waited for thread i was one of those paid
-  was_pending : (f : ℕ) → f < m.used.futures → (future_at m f).owner ≡ i → (future_at m f).outcome ≡ Waiting → In (of s i).futures f
+  was_pending : (f : ℕ) → f < m.used.futures → (future_at m f).owner ≡ i → (future_at m f).outcome ≡ None → In (of s i).futures f
   was_pending f l own waits = subst (λ (u : ℕ). In (of s u).futures f) own (h.waiting f l waits).1
 
-  pub paid_is_done : (f : ℕ) → In (of s i).futures f → (future_at m' f).outcome ≢ Waiting
+  pub paid_is_done : (f : ℕ) → In (of s i).futures f → (future_at m' f).outcome ≢ None
   paid_is_done f q e = let w = pays q.0 f q.1 in result_waits_not w.result (sym w.now ∙ e)
 
   -- the result stands, told for the future that it was paid to
@@ -194,18 +194,18 @@ module _ (m : Machine) (g : Ghost) (s : Story) (holds : Holds m g) (h : Futured 
       rising = λ j k e f q. absurd (nothing j e q);
     }
 
-    none_waits : (f : ℕ) → OwnFuture m' i f → (future_at m' f).outcome ≡ Waiting → ⊥
+    none_waits : (f : ℕ) → OwnFuture m' i f → (future_at m' f).outcome ≡ None → ⊥
     none_waits f own waits =
         let l : f < m.used.futures = omega (arith, own.handed_out, none_handed_out) in
         ⊎_elim {C = ⊥}
         (λ e. paid_is_done f (was_pending f l (sym (owners_stay f) ∙ own.owner) e) waits)
         (λ w.
-        let done : (future_at m f).outcome ≢ Waiting = λ e. result_waits_not w.0 (sym w.1 ∙ e) in
+        let done : (future_at m f).outcome ≢ None = λ e. result_waits_not w.0 (sym w.1 ∙ e) in
         done (sym (ap (λ (x : Future). x.outcome) (untouched f l (inr done))) ∙ waits))
         (waits_or_done (future_at m f).outcome)
 
     -- a future that waited is thread i's and holds what was paid, for those of others wait still
-    new_result : (f : ℕ) (o : Result ℕ) → f < m.used.futures → (future_at m f).outcome ≡ Waiting → (future_at m' f).outcome ≡ outcome_of o
+    new_result : (f : ℕ) (o : Result ℕ) → f < m.used.futures → (future_at m f).outcome ≡ None → (future_at m' f).outcome ≡ outcome_of o
         → Stands s'.order (future_given (future_at m' f).owner f o s'.clock)
     new_result f o l waits e = elim (ℕ_discrete (future_at m f).owner i) [ yes own ↦ here own | no ne ↦ absurd (elsewhere ne) ]
       where

@@ -9,6 +9,7 @@ use mathlib.Core.Option.{Option, some}
 use mathlib.Core.Logic.{◌⊎◌, inl, inr, ⊎_elim, ◌≢◌}
 use native.Mathlib.Omega.{arith}
 use lib.ListN.{length, get_or, set}
+use Rattle.std.specs.Prelude.{None}
 use Rattle.chain.specs.Positions.{at, At}
 use Rattle.chain.proofs.Positions.{within, in_either, empty_without_length}
 use Rattle.tally.specs.Fifo.{Call}
@@ -17,9 +18,9 @@ use Rattle.place.specs.declared.After.{After}
 use Rattle.place.specs.declared.After.TheVariants as afterwards
 use Rattle.place.specs.Place.{place_after}
 use Rattle.row.specs.Row.{placed, cleared}
-use Rattle.answer.specs.declared.Answer.{Answer}
+use Rattle.std.specs.declared.result.Result.TheVariants as reply
+use Rattle.answer.specs.Answer.{AnswerOrRefusal}
 use Rattle.answer.specs.declared.Answer.TheVariants as answer
-use Rattle.answer.specs.declared.Outcome.TheVariants.{Waiting}
 use Rattle.pairing.specs.declared.Cursor.{Cursor}
 use Rattle.machine.specs.declared.Machine.{Machine}
 use Rattle.machine.specs.State.{row_at, memory_of, future_at}
@@ -55,10 +56,10 @@ module _ (m : Machine) (g : Ghost) (s : Story) (holds : Holds m g) (h : Futured 
   abbrev remembers : Bool → Remembered
   remembers more = stepped_on (of s i) more (last_read_at s.clock (of s i).last_read (row_at m i).place)
 
-  abbrev gave : Answer → List Given
+  abbrev gave : AnswerOrRefusal → List Given
   gave a = gives i (of s i).called.asked (some (of s i).called.began) s.clock a
 
-  abbrev told : Answer → Story
+  abbrev told : AnswerOrRefusal → Story
   told a = record {
     clock = suc s.clock;
     order = order';
@@ -76,8 +77,8 @@ module _ (m : Machine) (g : Ghost) (s : Story) (holds : Holds m g) (h : Futured 
   has_its_futures c w e = w.futures ∙ ap (λ (t : ℕ). (of s t).futures) e
 
   -- what a step leaves of the story: nothing is unlinked, and no announcement is new
-  story_left : (a : Answer) (m' : Machine) (g' : Ghost) → g'.by ≡ g₁.by → ((j : ℕ) (x : Given) → At (gave a) j x → Stands order' x)
-      → ((c : Called) → BatchInCall m s c → c.thread ≡ i → (b f : ℕ) → At c.futures b f → ((future_at m' f).outcome ≢ Waiting) ⊎ BatchInCall m' (told a) c)
+  story_left : (a : AnswerOrRefusal) (m' : Machine) (g' : Ghost) → g'.by ≡ g₁.by → ((j : ℕ) (x : Given) → At (gave a) j x → Stands order' x)
+      → ((c : Called) → BatchInCall m s c → c.thread ≡ i → (b f : ℕ) → At c.futures b f → ((future_at m' f).outcome ≢ None) ⊎ BatchInCall m' (told a) c)
       → ((b : ℕ) (c : Called) → NotLinked g' b → At s.announced b c → BatchInCall m s c → c.thread ≡ i → BatchInCall m' (told a) c)
       → StoryLeft m g s i m' g' (told a)
   story_left a m' g' by stands ended going = record {
@@ -95,10 +96,10 @@ module _ (m : Machine) (g : Ghost) (s : Story) (holds : Holds m g) (h : Futured 
   none_is_going g' P none b c not q w e = absurd (none b c not q e (ap (λ (x : Called). x.began) (is_its_call c w e)))
 
   -- a step that pays nothing
-  puts : (a : After) → (hop m i).after ≡ a → (n : Answer) → Puts m s i m₁ (told n) (placed (row_at m i) (place_after a)) (remembers (is_more n))
+  puts : (a : After) → (hop m i).after ≡ a → (n : AnswerOrRefusal) → Puts m s i m₁ (told n) (placed (row_at m i) (place_after a)) (remembers (is_more n))
   puts a e n = record { small = lt; rows = holds.ok.rows; threads = h.threads; put_row = rows_moved m i a e; put_thread = refl }
 
-  nothing_paid_here : (a : After) → (hop m i).after ≡ a → (n : Answer) → (remembers (is_more n)).calls ≡ (of s i).calls → (remembers (is_more n)).futures ≡ (of s i).futures
+  nothing_paid_here : (a : After) → (hop m i).after ≡ a → (n : AnswerOrRefusal) → (remembers (is_more n)).calls ≡ (of s i).calls → (remembers (is_more n)).futures ≡ (of s i).futures
       → FuturesLeft m g s i m₁ g₁ (told n)
   unfolding hop
   nothing_paid_here a e n calls futures =
@@ -106,16 +107,16 @@ module _ (m : Machine) (g : Ghost) (s : Story) (holds : Holds m g) (h : Futured 
       (pending_kept (memory_of m) g (row_at m i).place)
 
   -- it goes on
-  goes_on : (p : Place) → (hop m i).after ≡ afterwards.On p → Futured m₁ g₁ (told answer.More)
+  goes_on : (p : Place) → (hop m i).after ≡ afterwards.On p → Futured m₁ g₁ (told (reply.Ok answer.More))
   goes_on p e =
-      still_futured m g s h i m₁ g₁ (told answer.More) (placed (row_at m i) p) (remembers true) (puts (afterwards.On p) e answer.More)
-      (nothing_paid_here (afterwards.On p) e answer.More refl refl)
-      (story_left answer.More m₁ g₁ refl (λ j x q. absurd (omega (arith, within (gave answer.More) j q)))
+      still_futured m g s h i m₁ g₁ (told (reply.Ok answer.More)) (placed (row_at m i) p) (remembers true) (puts (afterwards.On p) e (reply.Ok answer.More))
+      (nothing_paid_here (afterwards.On p) e (reply.Ok answer.More) refl refl)
+      (story_left (reply.Ok answer.More) m₁ g₁ refl (λ j x q. absurd (omega (arith, within (gave (reply.Ok answer.More)) j q)))
       (λ c w is b f q. inr (still c w is)) (λ b c not q w is. still c w is))
     where
-      still : (c : Called) → BatchInCall m s c → c.thread ≡ i → BatchInCall m₁ (told answer.More) c
+      still : (c : Called) → BatchInCall m s c → c.thread ≡ i → BatchInCall m₁ (told (reply.Ok answer.More)) c
       still c w is =
-          in_call_here (puts (afterwards.On p) e answer.More) c is (is_its_call c w is)
+          in_call_here (puts (afterwards.On p) e (reply.Ok answer.More)) c is (is_its_call c w is)
           (stays_in_call m i p e (λ q. w.in_call.busy (ap (λ (t : ℕ). (row_at m t).place) is ∙ q))) (has_its_futures c w is)
 
   -- it ends a single call: nothing is pending
@@ -128,7 +129,7 @@ module _ (m : Machine) (g : Ghost) (s : Story) (holds : Holds m g) (h : Futured 
       (λ c w is b f q. absurd (omega (arith, within c.futures b q, ap length (has_its_futures c w is ∙ no_futures))))
       (λ b c. none_is_going g₁ (BatchInCall m₁ (told n) c) ends.none b c))
     where
-      n : Answer
+      n : AnswerOrRefusal
       n = (tell m₁ i 1 a).answer
 
       no_calls : (of s i).calls ≡ []

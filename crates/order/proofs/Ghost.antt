@@ -9,9 +9,9 @@ use lib.Dec.{eqb}
 use Rattle.tally.specs.Fifo.{Call, enqueue, dequeue}
 use Rattle.cells.specs.declared.Tail.{Tail}
 use Rattle.cells.specs.declared.Head.TheVariants.{Plain}
-use Rattle.cells.specs.declared.Cell.{Cell}
+use Rattle.cells.specs.Links.{Link}
 use Rattle.cells.specs.Ends.{same_head}
-use Rattle.memory.specs.Memory.{Memory, cell_at}
+use Rattle.memory.specs.Memory.{Memory, link_at}
 use Rattle.place.specs.declared.Place.{Place}
 use Rattle.place.specs.declared.Place.TheVariants as place
 use Rattle.place.specs.declared.Place.TheVariants.{Idle, Enqueue, Dequeue, Dequeues, Running}
@@ -89,7 +89,7 @@ batch_of g a = get_or g.batches a no_batch
 -- what a step adds: a taken e2 or a3 links, a taken b2 installs; the other steps add nothing
 abbrev pub enqueue_ghost : Memory → Ghost → ℕ → EnqueueStep → Ghost
 enqueue_ghost m g n E1 = g
-enqueue_ghost m g n (E2 t) = if_none (cell_at m.links t.node).link (joins g t (n ∷ []) none) g
+enqueue_ghost m g n (E2 t) = if_none (link_at m.links t.node) (joins g t (n ∷ []) none) g
 enqueue_ghost m g n (E3 t) = g
 enqueue_ghost m g n (E4 t x) = g
 enqueue_ghost m g n (E5 t x) = g
@@ -101,7 +101,7 @@ batch_ghost m g b (B2 f) = cond (same_head m.ends.head (Plain f)) (installs g b)
 abbrev pub run_ghost : Memory → Ghost → ℕ → RunStep → Ghost
 run_ghost m g a A1 = g
 run_ghost m g a (A2 t) = g
-run_ghost m g a (A3 t) = if_none (cell_at m.links t.node).link (joins g t (batch_of g a).nodes (some a)) g
+run_ghost m g a (A3 t) = if_none (link_at m.links t.node) (joins g t (batch_of g a).nodes (some a)) g
 run_ghost m g a (A4 t) = g
 run_ghost m g a (A5 o) = g
 run_ghost m g a (A6 s x left) = g
@@ -170,7 +170,7 @@ abbrev pub defer_dequeue_ghost : Ghost → ℕ → Ghost
 defer_dequeue_ghost g t = defers g t (pending_of g t ++ (dequeue ∷ []))
 
 -- the nodes of a row's pending enqueues
-abbrev pub pending_nodes : List Cell → Row → List ℕ
+abbrev pub pending_nodes : List Link → Row → List ℕ
 pending_nodes links r = nodes_from links r.first r.tally.enqueues
 
 -- the pending calls are set off as a batch; one with an enqueue has an announcement

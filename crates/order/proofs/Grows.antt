@@ -1,5 +1,6 @@
 -- What a thread may rely on while others take steps, and that what it knows stays true: the chain grows at its end, the tail does not go back,
 -- an installed announcement keeps its request and an old tail that is set; and its own nodes and announcement are left alone.
+use Rattle.std.specs.Prelude.{None, Some}
 use Prim.Native.Nat.{ℕ, suc, ◌≤◌}
 use mathlib.Core.Path.{◌≡◌, refl, sym, ap, ◌∙◌, subst}
 use mathlib.Core.List.{List}
@@ -11,8 +12,7 @@ use Rattle.chain.specs.Positions.{At, In}
 use Rattle.chain.proofs.Positions.{within}
 use Rattle.tally.specs.Tally.{tally_of}
 use Rattle.cells.specs.declared.Tail.{Tail}
-use Rattle.cells.specs.declared.OldTail.{OldTail}
-use Rattle.cells.specs.declared.OldTail.TheVariants.{Unset, Set}
+use Rattle.cells.specs.Links.{OldTail}
 use Rattle.cells.specs.declared.Request.{Request}
 use Rattle.cells.specs.declared.Announcement.{Announcement}
 use Rattle.memory.specs.Memory.{announcement_at}
@@ -47,7 +47,7 @@ pub record Grows (s : Shared) (g : Ghost) (s' : Shared) (g' : Ghost) : Type 0 wh
   pub batches : (a : ℕ) (b : ghost.Batch) → At g.batches a b → At g'.batches a b
   pub tail_up : s.tail.count.0 ≤ s'.tail.count.0
   pub request : (a : ℕ) → In g.installed a → request_of s' a ≡ request_of s a
-  pub old_tail_lem : (a : ℕ) (t : Tail) → In g.installed a → (announcement_at s.announcements a).old_tail ≡ Set t → (announcement_at s'.announcements a).old_tail ≡ Set t
+  pub old_tail_lem : (a : ℕ) (t : Tail) → In g.installed a → (announcement_at s.announcements a).old_tail ≡ Some t → (announcement_at s'.announcements a).old_tail ≡ Some t
 
 -- what thread u may rely on besides, when another thread takes a step
 pub record Spares (s : Shared) (g : Ghost) (s' : Shared) (g' : Ghost) (u : ℕ) : Type 0 where
@@ -71,12 +71,12 @@ module _ {s : Shared} {g : Ghost} {s' : Shared} {g' : Ghost} (r : Grows s g s' g
   further_stays t = ⊎_elim (λ h. inl (single_stays h)) (λ h. inr (omega (arith, r.tail_up)))
 
   -- an old tail that is unset afterwards was unset before
-  pub was_unset : (a : ℕ) → In g.installed a → (announcement_at s'.announcements a).old_tail ≡ Unset → (announcement_at s.announcements a).old_tail ≡ Unset
+  pub was_unset : (a : ℕ) → In g.installed a → (announcement_at s'.announcements a).old_tail ≡ None → (announcement_at s.announcements a).old_tail ≡ None
   was_unset a h e = go (announcement_at s.announcements a).old_tail refl
     where
-      go : (o : OldTail) → (announcement_at s.announcements a).old_tail ≡ o → (announcement_at s.announcements a).old_tail ≡ Unset
-      go Unset q = q
-      go (Set t) q = absurd (let w = r.old_tail_lem a t h q in let z : ◌≡◌ {A = ℕ} 0 1 = cc in omega arith)
+      go : (o : OldTail) → (announcement_at s.announcements a).old_tail ≡ o → (announcement_at s.announcements a).old_tail ≡ None
+      go None q = q
+      go (Some t) q = absurd (let w = r.old_tail_lem a t h q in let z : ◌≡◌ {A = ℕ} 0 1 = cc in omega arith)
 
   past_stays : (a : ℕ) → In g.installed a → Past s g a → Past s' g' a
   past_stays a i h = record { old = h.old; is = r.old_tail_lem a h.old i h.is; past = omega (arith, h.past, r.tail_up) }

@@ -1,5 +1,6 @@
 -- An announcement is handed out for a batch: its number is new, so nobody has installed it and nobody owns it. It stands in the table with
 -- what the batch asks for and no old tail, and the other announcements stay as they are.
+use Rattle.std.specs.Prelude.{None}
 use Prim.Native.Nat.{ℕ, suc, ◌+◌, ◌%◌, ◌<◌}
 use mathlib.Core.Path.{◌≡◌, refl, sym, ap, ◌∙◌, subst}
 use mathlib.Core.List.{[], ◌∷◌}
@@ -8,7 +9,6 @@ use native.Mathlib.Omega.{arith}
 use lib.ListN.{length, length-set}
 use Rattle.chain.specs.Positions.{At, In}
 use Rattle.chain.proofs.Positions.{at_left, stays, at_the_end, length-one_more, there_or_at_the_end}
-use Rattle.cells.specs.declared.OldTail.TheVariants.{Unset}
 use Rattle.cells.specs.declared.Request.{Request}
 use Rattle.cells.specs.declared.Announcement.{Announcement}
 use Rattle.memory.specs.Memory.{announcement_at}
@@ -20,7 +20,7 @@ use Rattle.order.proofs.Grows.{Grows, Spares}
 use Rattle.order.proofs.NothingLinked.{link_steps_stay, tail_stays, linked_as_before, was_linked, shape_stays, owned_node_handed_out, batch_handed_out, owned_announcement_handed_out}
 
 abbrev pub asking : Request → Announcement
-asking k = record { request = k; old_tail = Unset }
+asking k = record { request = k; old_tail = None }
 
 -- the next announcement, with request k and no old tail
 abbrev pub announcement_handed_out : Shared → Request → Shared

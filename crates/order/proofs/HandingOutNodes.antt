@@ -1,5 +1,6 @@
 -- A node is handed out: its number is new, so it is in no chain, no batch and no pending list, and its link can be cleared unseen. And a
 -- deferred enqueue links the last node of its thread's pending list to the new one: both are the thread's own, so again nobody sees it.
+use Rattle.std.specs.Prelude.{None, Some}
 use Prim.Native.Nat.{ℕ, suc, ◌+◌, ◌%◌, ◌<◌}
 use mathlib.Core.Path.{◌≡◌, refl, sym, ap, ◌∙◌, subst}
 use mathlib.Core.List.{List, [], ◌∷◌, ◌++◌}
@@ -9,9 +10,7 @@ use native.Mathlib.Decide.{ℕ_discrete}
 use lib.ListN.{length, set, length-set}
 use Rattle.chain.specs.Positions.{at, At}
 use Rattle.chain.proofs.Positions.{one_element, within, past_the_end, at_left, stays, at_the_end, length-one_more, there_or_at_the_end}
-use Rattle.cells.specs.declared.Cell.{Cell}
-use Rattle.cells.specs.declared.Link.TheVariants.{None, To}
-use Rattle.memory.specs.Memory.{no_cell}
+use Rattle.cells.specs.Links.{Link}
 use Rattle.order.proofs.Ghost.{Ghost, owns}
 use Rattle.order.proofs.Shared.{Shared, next, with_links, linked, next_of_linked, next_of_others}
 use Rattle.order.proofs.Invariant.{Inv}
@@ -25,7 +24,7 @@ abbrev pub node_handed_out : Shared → Shared
 node_handed_out s = record {
   head = s.head;
   tail = s.tail;
-  links = set s.links (s.nodes % 512) no_cell;
+  links = set s.links (s.nodes % 512) None;
   announcements = s.announcements;
   nodes = s.nodes + 1;
   announced = s.announced;
@@ -33,7 +32,7 @@ node_handed_out s = record {
 
 -- node m linked to node x
 abbrev pub linked_to : Shared → ℕ → ℕ → Shared
-linked_to s m x = with_links s (linked s.links m (To x))
+linked_to s m x = with_links s (linked s.links m (Some x))
 
 -- 1. A node is handed out to thread t.
 module _ (s : Shared) (g : Ghost) (i : Inv s g) (t : ℕ) (room : s.nodes < 512) where
@@ -47,7 +46,7 @@ module _ (s : Shared) (g : Ghost) (i : Inv s g) (t : ℕ) (room : s.nodes < 512)
       chain = record { links = λ k n p. old_link_stays n (i.chain.in_use k n p) ∙ i.chain.chain.links k n p; once = i.chain.chain.once };
       in_use = λ k n p. omega (arith, i.chain.in_use k n p);
       room = omega arith;
-      cells = length-set s.links (s.nodes % 512) no_cell ∙ i.chain.cells;
+      cells = length-set s.links (s.nodes % 512) None ∙ i.chain.cells;
       owned = omega (arith, length-one_more g.node_owners t, i.chain.owned);
     };
     ends = link_steps_stay i.ends;
@@ -83,7 +82,7 @@ module _ (s : Shared) (g : Ghost) (i : Inv s g) (t : ℕ) (room : s.nodes < 512)
   }
 
   -- whatever is linked besides
-  new_node_grows_with : (ls : List Cell) → Grows s g (with_links (node_handed_out s) ls) (owns g t)
+  new_node_grows_with : (ls : List Link) → Grows s g (with_links (node_handed_out s) ls) (owns g t)
   new_node_grows_with ls = record {
     chain = λ k n h. h;
     ends = λ j p h. h;
@@ -125,7 +124,7 @@ module _ (s : Shared) (g : Ghost) (i : Inv s g) (t : ℕ) (room : s.nodes < 512)
 -- 2. A node m of thread t is linked to another.
 module _ (s : Shared) (g : Ghost) (i : Inv s g) (t m x : ℕ) (own : Mine g t m) where
   other_link_stays : (n : ℕ) → n < 512 → n ≢ m → next (linked_to s m x).links n ≡ next s.links n
-  other_link_stays n h ne = next_of_others s.links i.chain.cells m (To x) (owned_node_small s g i t m own) n h ne
+  other_link_stays n h ne = next_of_others s.links i.chain.cells m (Some x) (owned_node_small s g i t m own) n h ne
 
   pub own_link_inv : Inv (linked_to s m x) g
   own_link_inv = record {
@@ -137,7 +136,7 @@ module _ (s : Shared) (g : Ghost) (i : Inv s g) (t m x : ℕ) (own : Mine g t m)
       };
       in_use = i.chain.in_use;
       room = i.chain.room;
-      cells = length-set s.links (m % 512) (record { link = To x }) ∙ i.chain.cells;
+      cells = length-set s.links (m % 512) (Some x) ∙ i.chain.cells;
       owned = i.chain.owned;
     };
     ends = i.ends;
@@ -220,7 +219,7 @@ module _ (s : Shared) (g : Ghost) (i : Inv s g) (t : ℕ) (room : s.nodes < 512)
 
     last_link_lem : next (linked_to (node_handed_out s) last s.nodes).links last ≡ at (l ++ (s.nodes ∷ [])) (suc k)
     last_link_lem =
-        next_of_linked (node_handed_out s).links (new_node_inv s g i t room).chain.cells last (To s.nodes) (omega (arith, handed_out k last ends))
+        next_of_linked (node_handed_out s).links (new_node_inv s g i t room).chain.cells last (Some s.nodes) (omega (arith, handed_out k last ends))
         ∙ sym (at_the_end l s.nodes) ∙ ap (at (l ++ (s.nodes ∷ []))) all
 
     earlier_link : (j n : ℕ) → At l j n → n ≢ last → next (linked_to (node_handed_out s) last s.nodes).links n ≡ at (l ++ (s.nodes ∷ [])) (suc j)

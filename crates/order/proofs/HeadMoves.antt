@@ -1,6 +1,7 @@
 -- Steps that move the head, and the one that sets an old tail. The head goes from a node to a node (d3, q3), or from an announcement to a
 -- node (a7): then the batch is linked and the tail is past it, so nobody waits for the announcement any more. An old tail (a4) is set to
 -- where the batch was linked; as there is one such place, whoever sets it again sets the same.
+use Rattle.std.specs.Prelude.{Some}
 use Prim.Native.Nat.{ℕ, suc, ◌<◌}
 use mathlib.Core.Path.{◌≡◌, refl, sym, ap, ◌∙◌, subst}
 use mathlib.Core.Bool.{Bool}
@@ -16,8 +17,7 @@ use Rattle.cells.specs.declared.Tail.{Tail}
 use Rattle.cells.specs.declared.Front.{Front}
 use Rattle.cells.specs.declared.Head.{Head}
 use Rattle.cells.specs.declared.Head.TheVariants.{Plain, Announced}
-use Rattle.cells.specs.declared.OldTail.{OldTail}
-use Rattle.cells.specs.declared.OldTail.TheVariants.{Set}
+use Rattle.cells.specs.Links.{OldTail}
 use Rattle.cells.specs.declared.Announcement.{Announcement}
 use Rattle.memory.specs.Memory.{announcement_at, tail_set}
 use Rattle.cells.specs.Ends.{same_head}
@@ -118,7 +118,7 @@ module _ {s : Shared} {g : Ghost} (i : Inv s g) (a : ℕ) (t : Tail) (there : In
   set_there : announcement_at (old_tail_set s a t).announcements a ≡ tail_set (announcement_at s.announcements a) t
   set_there = announcement_set s.announcements i.batches.cells a (tail_set (announcement_at s.announcements a) t) (small a there)
 
-  pub old_tail_is_set : (announcement_at (old_tail_set s a t).announcements a).old_tail ≡ Set t
+  pub old_tail_is_set : (announcement_at (old_tail_set s a t).announcements a).old_tail ≡ Some t
   old_tail_is_set = ap (λ (x : Announcement). x.old_tail) set_there
 
   others_stay : (b : ℕ) → b < 64 → b ≢ a → announcement_at (old_tail_set s a t).announcements b ≡ announcement_at s.announcements b
@@ -138,16 +138,16 @@ module _ {s : Shared} {g : Ghost} (i : Inv s g) (a : ℕ) (t : Tail) (there : In
   request_stays b fits = still (λ x. x.request ≡ request_of s b) (λ x h. h) b fits refl
 
   -- an old tail that is set already is not set to another
-  set_stays : (b : ℕ) (o : Tail) → In g.installed b → old_tail_of s b ≡ Set o → old_tail_of (old_tail_set s a t) b ≡ Set o
+  set_stays : (b : ℕ) (o : Tail) → In g.installed b → old_tail_of s b ≡ Some o → old_tail_of (old_tail_set s a t) b ≡ Some o
   set_stays b o w e =
       elim (ℕ_discrete b a) [ yes f ↦ again f | no ne ↦ ap (λ (x : Announcement). x.old_tail) (others_stay b (small b w) ne) ∙ e ]
     where
-      again : b ≡ a → old_tail_of (old_tail_set s a t) b ≡ Set o
+      again : b ≡ a → old_tail_of (old_tail_set s a t) b ≡ Some o
       again f =
           let m = i.linked.old_tails a o (ap (old_tail_of s) (sym f) ∙ e) there in
           let c = linked_in_one_place g i.ends place m.0 in
           let n = one_element g.chain _ _ is m.1 c in
-          ap (old_tail_of (old_tail_set s a t)) f ∙ old_tail_is_set ∙ ap Set (tail_of_parts t o n c)
+          ap (old_tail_of (old_tail_set s a t)) f ∙ old_tail_is_set ∙ ap Some (tail_of_parts t o n c)
 
   pub set_old_tail_grows : Grows s g (old_tail_set s a t) g
   set_old_tail_grows = record {
@@ -173,13 +173,13 @@ module _ {s : Shared} {g : Ghost} (i : Inv s g) (a : ℕ) (t : Tail) (there : In
     pending = refl;
   }
 
-  old_tails_lem : (b : ℕ) (o : Tail) → old_tail_of (old_tail_set s a t) b ≡ Set o → In g.installed b → Linked g b o.count.0 × TailAt g o
+  old_tails_lem : (b : ℕ) (o : Tail) → old_tail_of (old_tail_set s a t) b ≡ Some o → In g.installed b → Linked g b o.count.0 × TailAt g o
   old_tails_lem b o e w =
       elim (ℕ_discrete b a) [ yes f ↦ here f | no ne ↦ i.linked.old_tails b o (ap (λ (x : Announcement). x.old_tail) (sym (others_stay b (small b w) ne)) ∙ e) w ]
     where
       here : b ≡ a → Linked g b o.count.0 × TailAt g o
       here f =
-          let q : Set t ≡ Set o = sym old_tail_is_set ∙ ap (old_tail_of (old_tail_set s a t)) (sym f) ∙ e in
+          let q : Some t ≡ Some o = sym old_tail_is_set ∙ ap (old_tail_of (old_tail_set s a t)) (sym f) ∙ e in
           let r : t ≡ o = cc in
           subst (λ (c : ℕ). Linked g c o.count.0 × TailAt g o) (sym f) (subst (λ (y : Tail). Linked g a y.count.0 × TailAt g y) r (place, is))
 

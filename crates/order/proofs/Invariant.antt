@@ -1,5 +1,6 @@
 -- The invariant of what the threads share, conjunct by conjunct. Every count beside a node is the node's position in the chain; so a pair that
 -- anybody remembers never becomes false, since the chain only grows at its end.
+use Rattle.std.specs.Prelude.{None, Some}
 use Prim.Native.Nat.{ℕ, suc, ◌+◌, ◌<◌, ◌≤◌}
 use mathlib.Core.Path.{◌≡◌}
 use mathlib.Core.List.{List}
@@ -13,8 +14,7 @@ use Rattle.cells.specs.declared.Tail.{Tail}
 use Rattle.cells.specs.declared.Front.{Front}
 use Rattle.cells.specs.declared.Head.{Head}
 use Rattle.cells.specs.declared.Head.TheVariants.{Plain, Announced}
-use Rattle.cells.specs.declared.Cell.{Cell}
-use Rattle.cells.specs.declared.OldTail.TheVariants.{Unset, Set}
+use Rattle.cells.specs.Links.{Link}
 use Rattle.cells.specs.declared.Announcement.{Announcement}
 use Rattle.memory.specs.Memory.{announcement_at}
 use Rattle.order.proofs.Ghost.{Ghost, Batch}
@@ -37,7 +37,7 @@ abbrev pub NotLinked : Ghost → ℕ → Type 0
 NotLinked g a = (j : ℕ) → At g.by j (some a) → ⊥
 
 -- 1. The chain: it starts at the dummy, its nodes have been handed out, and its links are the machine's.
-pub record InvChain (links : List Cell) (nodes : ℕ) (g : Ghost) : Type 0 where
+pub record InvChain (links : List Link) (nodes : ℕ) (g : Ghost) : Type 0 where
   pub first : At g.chain 0 0
   pub chain : Chain (next links) g.chain
   pub in_use : (k n : ℕ) → At g.chain k n → n < nodes
@@ -75,8 +75,8 @@ pub record Shape (g : Ghost) (x : Announcement) (j p : ℕ) : Type 0 where
 pub record InvLinked (head : Head) (tail : Tail) (anns : List Announcement) (g : Ghost) : Type 0 where
   pub shape : (a j p : ℕ) → At g.by (suc j) (some a) → At g.ends j p → Shape g (announcement_at anns a) j p
   pub waits : (a j p : ℕ) → At g.by (suc j) (some a) → At g.ends j p → (p < tail.count.0) ⊎ (head ≡ Announced a)
-  pub not_past : (a j p : ℕ) → At g.by (suc j) (some a) → At g.ends j p → (announcement_at anns a).old_tail ≡ Unset → tail.count.0 ≤ p
-  pub old_tails : (a : ℕ) (t : Tail) → (announcement_at anns a).old_tail ≡ Set t → In g.installed a → Linked g a t.count.0 × TailAt g t
+  pub not_past : (a j p : ℕ) → At g.by (suc j) (some a) → At g.ends j p → (announcement_at anns a).old_tail ≡ None → tail.count.0 ≤ p
+  pub old_tails : (a : ℕ) (t : Tail) → (announcement_at anns a).old_tail ≡ Some t → In g.installed a → Linked g a t.count.0 × TailAt g t
 
 -- 5. The head: a node of the chain, or an announcement that has been installed; one that has been is linked or still there.
 pub record InvHead (head : Head) (anns : List Announcement) (g : Ghost) : Type 0 where
@@ -95,7 +95,7 @@ pub record Asks (x : Announcement) (b : Batch) : Type 0 where
   pub tally : x.request.tally ≡ tally_of b.calls
 
 -- 6. The batches of the announcements handed out; one that was installed and is not linked stands beside the chain.
-pub record InvBatches (links : List Cell) (nodes announced : ℕ) (anns : List Announcement) (g : Ghost) : Type 0 where
+pub record InvBatches (links : List Link) (nodes announced : ℕ) (anns : List Announcement) (g : Ghost) : Type 0 where
   pub asks : (a : ℕ) (b : Batch) → At g.batches a b → Asks (announcement_at anns a) b
   pub in_use : (a k n : ℕ) (b : Batch) → At g.batches a b → At b.nodes k n → n < nodes
   pub counted : announced ≡ length g.batches

@@ -1,4 +1,5 @@
 -- What a thread knows, by its place: of its own nodes and announcement, which nobody else touches, and of what it has read, which stays true.
+use Rattle.std.specs.Prelude.{None, Some}
 use Prim.Native.Nat.{ℕ, suc, ◌+◌, ◌-◌, ◌<◌, ◌≤◌}
 use mathlib.Core.Path.{◌≡◌}
 use mathlib.Core.List.{List, []}
@@ -9,7 +10,6 @@ use Rattle.chain.specs.Positions.{At, In}
 use Rattle.chain.specs.Chain.{Chain}
 use Rattle.tally.specs.Tally.{tally_of, successful_on}
 use Rattle.cells.specs.declared.Tail.{Tail}
-use Rattle.cells.specs.declared.OldTail.TheVariants.{Unset, Set}
 use Rattle.cells.specs.declared.Request.{Request}
 use Rattle.memory.specs.Memory.{announcement_at}
 use Rattle.place.specs.declared.Place.{Place}
@@ -57,7 +57,7 @@ pub record MineToo (g : Ghost) (t b : ℕ) : Type 0 where
 
 pub record NotAnnounced (s : Shared) (g : Ghost) (t b : ℕ) : Type 0 where
   pub mine : MineToo g t b
-  pub unset : (announcement_at s.announcements b).old_tail ≡ Unset
+  pub unset : (announcement_at s.announcements b).old_tail ≡ None
   pub batch : ghost.Batch
   pub is : At g.batches b batch
   pub private : Private s g t batch.nodes
@@ -83,7 +83,7 @@ OneFurther s g t = SingleBehind g t.count.0 ⊎ (t.count.0 < s.tail.count.0)
 -- the old tail is o, and the tail is past it
 pub record Past (s : Shared) (g : Ghost) (a : ℕ) : Type 0 where
   pub old : Tail
-  pub is : (announcement_at s.announcements a).old_tail ≡ Set old
+  pub is : (announcement_at s.announcements a).old_tail ≡ Some old
   pub past : old.count.0 < s.tail.count.0
 
 -- the successful dequeues, and the position of the head that a7 will set, for a batch linked behind position p; and for an old tail o
@@ -102,10 +102,10 @@ request_of s a = (announcement_at s.announcements a).request
 -- a run of announcement a
 abbrev pub KnowsRun : Shared → Ghost → ℕ → RunStep → Type 0
 KnowsRun s g a A1 = Unit {0}
-KnowsRun s g a (A2 t) = TailRead s g t × ((p : ℕ) → Linked g a p → (announcement_at s.announcements a).old_tail ≡ Unset → t.count.0 ≤ p)
+KnowsRun s g a (A2 t) = TailRead s g t × ((p : ℕ) → Linked g a p → (announcement_at s.announcements a).old_tail ≡ None → t.count.0 ≤ p)
 KnowsRun s g a (A3 t) = TailRead s g t × ((p : ℕ) → Linked g a p → t.count.0 ≤ p)
 KnowsRun s g a (A4 t) = Linked g a t.count.0 × TailAt g t
-KnowsRun s g a (A5 o) = (announcement_at s.announcements a).old_tail ≡ Set o
+KnowsRun s g a (A5 o) = (announcement_at s.announcements a).old_tail ≡ Some o
 KnowsRun s g a (A6 rise x left) = (p : Past s g a) × (i : ℕ) × At g.chain i x × (0 < left) × (i + left ≡ goal (request_of s a) p.old) × (rise ≡ rises_by (request_of s a) p.old)
 KnowsRun s g a (A7 rise x) = (p : Past s g a) × At g.chain (goal (request_of s a) p.old) x × (rise ≡ rises_by (request_of s a) p.old)
 KnowsRun s g a (A8 t x) = TailRead s g t × At g.chain (suc t.count.0) x × OneFurther s g t

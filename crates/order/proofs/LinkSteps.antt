@@ -1,5 +1,6 @@
 -- A link step (a taken e2 or a3): nodes that are a chain of their own are linked behind the last node, and everything stays as the invariant has it.
 -- The tail that was read is the last node, since its link is none; so the tail has not moved, and after the step it is one link step behind.
+use Rattle.std.specs.Prelude.{Some}
 use Prim.Native.Nat.{ℕ, suc, ◌+◌, ◌-◌, ◌<◌, ◌≤◌}
 use mathlib.Core.Path.{◌≡◌, refl, sym, ap, ◌∙◌, subst}
 use mathlib.Core.List.{List, [], ◌∷◌, ◌++◌}
@@ -15,7 +16,6 @@ use Rattle.chain.proofs.Following.{none_is_the_last}
 use Rattle.chain.proofs.Joining.{joined, stays_beside}
 use Rattle.cells.specs.declared.Tail.{Tail}
 use Rattle.cells.specs.declared.Head.TheVariants.{Announced}
-use Rattle.cells.specs.declared.Link.TheVariants.{To}
 use Rattle.cells.specs.declared.Announcement.{Announcement}
 use Rattle.memory.specs.Memory.{announcement_at}
 use Rattle.order.proofs.Ghost.{Ghost, Batch, joins}
@@ -41,7 +41,7 @@ pub record Joins (s : Shared) (g : Ghost) (l : List ℕ) (f : ℕ) (who : Option
 module _ (s : Shared) (g : Ghost) (i : Inv s g) (l : List ℕ) (f : ℕ) (who : Option ℕ) (t : Tail)
     (read : TailRead s g t) (free : next s.links t.node ≡ none) (j : Joins s g l f who t) where
   abbrev pub after : Shared
-  after = with_links s (linked s.links t.node (To f))
+  after = with_links s (linked s.links t.node (Some f))
 
   abbrev pub after_g : Ghost
   after_g = joins g t l who
@@ -75,25 +75,25 @@ module _ (s : Shared) (g : Ghost) (i : Inv s g) (l : List ℕ) (f : ℕ) (who : 
   small = node_small s g i t.count.0 t.node read.is
 
   -- nodes outside the chain keep their links
-  pub other_links : (n : ℕ) → n < 512 → (In g.chain n → ⊥) → next (linked s.links t.node (To f)) n ≡ next s.links n
-  other_links n h out = next_of_others s.links i.chain.cells t.node (To f) small n h (λ e. out (t.count.0, read.is ∙ ap some (sym e)))
+  pub other_links : (n : ℕ) → n < 512 → (In g.chain n → ⊥) → next (linked s.links t.node (Some f)) n ≡ next s.links n
+  other_links n h out = next_of_others s.links i.chain.cells t.node (Some f) small n h (λ e. out (t.count.0, read.is ∙ ap some (sym e)))
 
   in_use_small : (n : ℕ) → n < s.nodes → n < 512
   in_use_small n h = omega (arith, i.chain.room)
 
-  others_among : (n : ℕ) → In g.chain n ⊎ In l n → n ≢ t.node → next (linked s.links t.node (To f)) n ≡ next s.links n
-  others_among n w ne = next_of_others s.links i.chain.cells t.node (To f) small n (in_range_lem w) ne
+  others_among : (n : ℕ) → In g.chain n ⊎ In l n → n ≢ t.node → next (linked s.links t.node (Some f)) n ≡ next s.links n
+  others_among n w ne = next_of_others s.links i.chain.cells t.node (Some f) small n (in_range_lem w) ne
     where
       in_range_lem : In g.chain n ⊎ In l n → n < 512
       in_range_lem (inl p) = in_use_small n (i.chain.in_use p.0 n p.1)
       in_range_lem (inr p) = in_use_small n (j.in_use p.0 n p.1)
 
-  join_chain : InvChain (linked s.links t.node (To f)) s.nodes after_g
+  join_chain : InvChain (linked s.links t.node (Some f)) s.nodes after_g
   join_chain = record {
     first = stays g.chain l 0 i.chain.first;
     chain =
         joined i.chain.chain j.beside t.node f t.count.0 read.is at_last j.first_is
-        (next_of_linked s.links i.chain.cells t.node (To f) small) others_among;
+        (next_of_linked s.links i.chain.cells t.node (Some f) small) others_among;
     in_use = λ k n p. ⊎_elim (i.chain.in_use k n) (λ w. j.in_use w.0 n w.2) (in_either g.chain l k p);
     room = i.chain.room;
     cells = length-set s.links _ _ ∙ i.chain.cells;
@@ -206,7 +206,7 @@ module _ (s : Shared) (g : Ghost) (i : Inv s g) (l : List ℕ) (f : ℕ) (who : 
     has_batch = i.head.has_batch;
   }
 
-  join_beside : (a : ℕ) (b : Batch) → In g.installed a → NotLinked after_g a → At g.batches a b → Beside (next (linked s.links t.node (To f))) (g.chain ++ l) b.nodes
+  join_beside : (a : ℕ) (b : Batch) → In g.installed a → NotLinked after_g a → At g.batches a b → Beside (next (linked s.links t.node (Some f))) (g.chain ++ l) b.nodes
   join_beside a b h never p =
       let not : NotLinked g a = λ k x. never k (stays g.by (who ∷ []) k x) in
       let new : who ≡ some a → ⊥ = λ e. never (length g.by) (rw (← e) (at_the_end g.by who)) in

@@ -1,5 +1,6 @@
 -- What stands beside the machine tells of the link steps taken: its chain is the linked nodes, and link step j ended where the nodes of the
 -- first j link steps end.
+use Rattle.std.specs.Prelude.{None, Some}
 use Prim.Native.Nat.{ℕ, suc, ◌+◌, ◌<◌, ◌≤◌}
 use mathlib.Core.Path.{◌≡◌, refl, sym, ap, ◌∙◌, subst}
 use mathlib.Core.List.{List, [], ◌∷◌, ◌++◌, append_assoc, append-nil}
@@ -14,10 +15,9 @@ use Rattle.chain.proofs.Following.{meets_the_rest, none_is_the_last}
 use Rattle.refusal.proofs.Tests.{either_way}
 use Rattle.cells.specs.declared.Tail.{Tail}
 use Rattle.cells.specs.declared.Head.TheVariants.{Plain}
-use Rattle.cells.specs.declared.Link.{Link}
-use Rattle.cells.specs.declared.Link.TheVariants.{None, To}
+use Rattle.cells.specs.Links.{Link}
 use Rattle.cells.specs.Ends.{same_head}
-use Rattle.memory.specs.Memory.{cell_at, announcement_at}
+use Rattle.memory.specs.Memory.{link_at, announcement_at}
 use Rattle.place.specs.declared.Place.{Place}
 use Rattle.place.specs.declared.Place.TheVariants as place
 use Rattle.place.specs.declared.Place.TheVariants.{Idle, Enqueue, Dequeue, Dequeues, Running}
@@ -98,12 +98,12 @@ module _ (m : Machine) (g : Ghost) (ok : Ok m g) (i : ℕ) (lt : i < 8) (steps :
   at_the_last : (t : Tail) → TailRead (shared_of m) g t → next m.links t.node ≡ none → length g.chain ≡ suc t.count.0
   at_the_last t read free = omega (arith, none_is_the_last ok.inv.chain.chain _ _ read.is free, within g.chain _ read.is)
 
-  taken_tells : (t : Tail) → TailRead (shared_of m) g t → (l nodes : List ℕ) (who : Option ℕ) (x : Link) → (cell_at m.links t.node).link ≡ x
+  taken_tells : (t : Tail) → TailRead (shared_of m) g t → (l nodes : List ℕ) (who : Option ℕ) (x : Link) → link_at m.links t.node ≡ x
       → (next m.links t.node ≡ none → nodes ≡ l) → Tells (if_none x (joins g t nodes who) g) (steps ++ if_none x (l ∷ []) [])
   taken_tells t read l nodes who None e same =
       let free : next m.links t.node ≡ none = ap led e in
       subst (λ (x : List ℕ). Tells (joins g t nodes who) (steps ++ (x ∷ []))) (same free) (joins_tells g steps h t nodes who (at_the_last t read free))
-  taken_tells t read l nodes who (To x) e same = nothing_more steps h
+  taken_tells t read l nodes who (Some x) e same = nothing_more steps h
 
   -- the nodes of the batch are those met from its first one on
   pub batch_nodes_lem : (r : Row) (a : ℕ) (k : Resume) (there : In g.installed a) → KnowsResume (shared_of m) g i a r k → (t : Tail) → KnowsRun (shared_of m) g a (A3 t) → next m.links t.node ≡ none

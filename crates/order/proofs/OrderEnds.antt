@@ -12,7 +12,7 @@ use Rattle.tally.specs.Fifo.{Result, ok, item, empty, results}
 use Rattle.tally.specs.Excess.{enqueued, enqueues}
 use Rattle.tally.specs.declared.Tally.{Tally}
 use Rattle.chain.specs.Chain.{Chain}
-use Rattle.cells.specs.declared.Cell.{Cell}
+use Rattle.cells.specs.Links.{Link}
 use Rattle.memory.specs.Memory.{Memory, announcement_at}
 use Rattle.place.specs.declared.After.{After}
 use Rattle.place.specs.declared.After.TheVariants as afterwards
@@ -105,7 +105,7 @@ module _ (m : Machine) (g : Ghost) (s : Story) (i : ℕ) (lt : i < 8) (holds : H
     m₀ = with_memory m x
 
     chain_is : Chain (next (hop m i).machine.links) g₁.chain
-    chain_is = subst (λ (l : List Cell). Chain (next l) g₁.chain) (sym links) inv.chain.chain
+    chain_is = subst (λ (l : List Link). Chain (next l) g₁.chain) (sym links) inv.chain.chain
 
     module _ (from : ℕ) (w : BatchRan m₀ g₁ s s₁ i (row_at m i) from) where
       abbrev a : ℕ

@@ -7,7 +7,6 @@ use native.Mathlib.Decide.{ℕ_discrete, dec_lt}
 use Rattle.chain.specs.Positions.{At}
 use Rattle.chain.proofs.Positions.{one_element}
 use Rattle.entry.specs.declared.Entry.{Entry}
-use Rattle.answer.specs.declared.Verdict.TheVariants.{Accepted}
 use Rattle.entry.specs.Range.{in_range}
 use Rattle.machine.specs.declared.Machine.{Machine}
 use Rattle.machine.specs.State.{fresh_machine}
@@ -28,6 +27,7 @@ use Rattle.order.proofs.Started.{Begun, event_begun, fresh_begun}
 use Rattle.order.proofs.OrderQuiet.{KnowsAll}
 use Rattle.order.proofs.OrderEntries.{event_orderly, fresh_orderly, fresh_knows_all}
 use Rattle.order.proofs.OrderAfterSteps.{step_effect, step_orderly, step_knows, step_futures}
+use Rattle.refusal.specs.Verdicts.{accepted}
 
 -- what every event keeps: the chain's invariant and the flags, the items of pending nodes, the order, the futures, the calls started, and what threads know
 -- of the order
@@ -55,7 +55,7 @@ event_kept m g s x finds k =
 abbrev KeptBy : Machine → Ghost × Story → Type 0
 KeptBy m p = Keeps m p.0 p.1
 
-module _ (threads nodes : ℕ) (accepted : in_range threads nodes ≡ Accepted) (es : List Entry) where
+module _ (threads nodes : ℕ) (accepted : in_range threads nodes ≡ accepted) (es : List Entry) where
   abbrev fresh : Machine
   fresh = fresh_machine threads nodes
 

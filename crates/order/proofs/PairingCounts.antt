@@ -2,7 +2,6 @@
 -- where the futures of the pending calls are flagged as those calls are, the turns have as many enqueues as the calls, which is the row's tally.
 use Prim.Native.Nat.{ℕ, zero, suc, ◌+◌, ◌%◌, ◌<◌, ◌≤◌}
 use mathlib.Core.Path.{◌≡◌, refl, sym, ap, ◌∙◌, subst}
-use mathlib.Core.Bool.{Bool, true, false, cond}
 use mathlib.Core.List.{List, [], ◌∷◌}
 use native.Mathlib.Omega.{arith}
 use lib.ListN.{length, get_or, set}
@@ -10,15 +9,17 @@ use Rattle.chain.specs.Positions.{at, At}
 use Rattle.tally.specs.Fifo.{Call, enqueue, dequeue}
 use Rattle.tally.specs.Excess.{enqueued, enqueues}
 use Rattle.tally.specs.declared.Tally.{Tally}
-use Rattle.cells.specs.declared.Cell.{Cell}
+use Rattle.cells.specs.Links.{Link}
 use Rattle.place.specs.declared.After.{After}
 use Rattle.place.specs.declared.After.TheVariants as afterwards
 use Rattle.place.specs.Place.{place_after}
 use Rattle.row.specs.declared.Row.{Row}
 use Rattle.row.specs.Row.{placed}
 use Rattle.answer.specs.declared.Item.{Item}
-use Rattle.answer.specs.declared.Outcome.{Outcome}
+use Rattle.answer.specs.Answer.{Outcome}
 use Rattle.answer.specs.declared.Future.{Future}
+use Rattle.answer.specs.declared.Operation.{Operation}
+use Rattle.answer.specs.declared.Operation.TheVariants as operation
 use Rattle.pairing.specs.declared.Cursor.{Cursor}
 use Rattle.machine.specs.declared.Machine.{Machine}
 use Rattle.machine.specs.State.{row_at, memory_of, no_future}
@@ -29,23 +30,23 @@ use Rattle.order.specs.PairingReads.{AllStayOn, turns, turns_from, turns_after}
 use Rattle.order.proofs.Knows.{Tallied}
 use Rattle.order.proofs.Steps.{Ok}
 use Rattle.order.proofs.RowPut.{row_moved}
-use Rattle.order.proofs.PairingWalks.{enqueues_among}
+use Rattle.order.proofs.PairingWalks.{one_more_for, enqueues_among}
 use Rattle.order.proofs.PairingSteps.{pairing_stays_on}
 
-abbrev pub is_enqueue : Call ℕ → Bool
-is_enqueue (enqueue v) = true
-is_enqueue dequeue = false
+abbrev pub operation_of : Call ℕ → Operation
+operation_of (enqueue v) = operation.Enqueue
+operation_of dequeue = operation.Dequeue
 
 -- the futures of the pending calls, from the k-th pending place on, are flagged as the calls are
 abbrev pub FlaggedFrom : ℕ → List ℕ → List Future → List (Call ℕ) → Type 0
-FlaggedFrom k pending fs cs = (j : ℕ) (c : Call ℕ) → At cs j c → (pending_future pending (k + j) fs).enqueue ≡ is_enqueue c
+FlaggedFrom k pending fs cs = (j : ℕ) (c : Call ℕ) → At cs j c → (pending_future pending (k + j) fs).operation ≡ operation_of c
 
 abbrev pub Flagged : List ℕ → List Future → List (Call ℕ) → Type 0
 Flagged pending fs cs = FlaggedFrom 0 pending fs cs
 
--- the thread that a future was handed out to, and whether it was for an enqueue
-abbrev pub handed_out_for : Future → ℕ × Bool
-handed_out_for f = (f.owner, f.enqueue)
+-- the thread that a future was handed out to, and for which call
+abbrev pub handed_out_for : Future → ℕ × Operation
+handed_out_for f = (f.owner, f.operation)
 
 -- a future that becomes done keeps both
 pub done_keeps : (fs : List Future) (i j : ℕ) (o : Outcome)
@@ -58,22 +59,22 @@ done_keeps (x ∷ fs) (suc i) (suc j) o = done_keeps fs i j o
 
 -- the flags of the first pending call, and of those after it once it is paid
 module _ (pending : List ℕ) (k : ℕ) (fs : List Future) (x : Call ℕ) (cs : List (Call ℕ)) (flagged : FlaggedFrom k pending fs (x ∷ cs)) where
-  pub flagged_now : (pending_future pending k fs).enqueue ≡ is_enqueue x
+  pub flagged_now : (pending_future pending k fs).operation ≡ operation_of x
   unfolding at
-  flagged_now = subst (λ (p : ℕ). (pending_future pending p fs).enqueue ≡ is_enqueue x) (let z : k + 0 ≡ k = omega arith in z) (flagged 0 x refl)
+  flagged_now = subst (λ (p : ℕ). (pending_future pending p fs).operation ≡ operation_of x) (let z : k + 0 ≡ k = omega arith in z) (flagged 0 x refl)
 
   pub flagged_later : (o : Outcome) → FlaggedFrom (k + 1) pending (with_outcome pending k fs o) cs
   unfolding at
   flagged_later o j y h =
-      ap (λ (z : ℕ × Bool). z.1) (done_keeps fs _ _ o)
-      ∙ subst (λ (p : ℕ). (pending_future pending p fs).enqueue ≡ is_enqueue y) (let z : k + suc j ≡ k + 1 + j = omega arith in z) (flagged (suc j) y h)
+      ap (λ (z : ℕ × Operation). z.1) (done_keeps fs _ _ o)
+      ∙ subst (λ (p : ℕ). (pending_future pending p fs).operation ≡ operation_of y) (let z : k + suc j ≡ k + 1 + j = omega arith in z) (flagged (suc j) y h)
 
-one_more_or_not : (b : Bool) (n : ℕ) (x : Call ℕ) (cs : List (Call ℕ)) → b ≡ is_enqueue x → n ≡ enqueues cs → cond b (suc n) n ≡ enqueues (x ∷ cs)
+one_more_or_not : (o : Operation) (n : ℕ) (x : Call ℕ) (cs : List (Call ℕ)) → o ≡ operation_of x → n ≡ enqueues cs → one_more_for o n ≡ enqueues (x ∷ cs)
 unfolding enqueued
-one_more_or_not b n (enqueue v) cs e h = rw e (ap suc h)
-one_more_or_not b n dequeue cs e h = rw e h
+one_more_or_not o n (enqueue v) cs e h = rw e (ap suc h)
+one_more_or_not o n dequeue cs e h = rw e h
 
-module _ (links : List Cell) (items : List Item) (last : ℕ) (pending : List ℕ) where
+module _ (links : List Link) (items : List Item) (last : ℕ) (pending : List ℕ) where
   pub as_many_turns_as_calls : (cs : List (Call ℕ)) (k : ℕ) (fs : List Future) (c : Cursor) → FlaggedFrom k pending fs cs
       → enqueues_among (turns (length cs) links items last pending k fs c) ≡ enqueues cs
   unfolding turns enqueues_among enqueued

@@ -2,6 +2,7 @@
 -- are those of the nodes behind the current head, and right behind them are the nodes of the enqueues to come. In a batch with an enqueue the
 -- next enqueue's link leads to the first of those; so the link behind the current head is the same link exactly where the plain list is empty,
 -- for no node stands in the chain twice. "No more can succeed" is said at the batch's last node, where nothing is behind and nothing is to come.
+use Rattle.std.specs.Prelude.{None, Some}
 use Prim.Native.Nat.{ℕ, suc, ◌+◌, ◌-◌, ◌<◌, ◌≤◌}
 use mathlib.Core.Path.{◌≡◌, refl, sym, ap, ap₂, ◌∙◌, subst}
 use mathlib.Core.Bool.{Bool, true, false, ◌||◌, or-true, true≢false}
@@ -17,14 +18,13 @@ use Rattle.chain.specs.Chain.{Chain}
 use Rattle.chain.proofs.Positions.{within, drop_from, length-one_more, empty_without_length}
 use Rattle.tally.specs.Fifo.{Call, enqueue, dequeue, after, result, results}
 use Rattle.tally.specs.Excess.{enqueued, enqueues}
-use Rattle.cells.specs.declared.Cell.{Cell}
-use Rattle.cells.specs.declared.Link.{Link}
-use Rattle.cells.specs.declared.Link.TheVariants.{None, To}
-use Rattle.memory.specs.Memory.{cell_at}
+use Rattle.cells.specs.Links.{Link}
+use Rattle.memory.specs.Memory.{link_at}
 use Rattle.answer.specs.declared.Item.{Item}
-use Rattle.answer.specs.declared.Outcome.{Outcome}
-use Rattle.answer.specs.declared.Outcome.TheVariants as outcome
+use Rattle.answer.specs.Answer.{Outcome}
+use Rattle.answer.specs.declared.CallResult.TheVariants as call_result
 use Rattle.answer.specs.declared.Future.{Future}
+use Rattle.answer.specs.declared.Operation.{Operation}
 use Rattle.pairing.specs.declared.Supply.{Supply}
 use Rattle.pairing.specs.declared.Supply.TheVariants.{Batch, Dequeues}
 use Rattle.pairing.specs.declared.Cursor.{Cursor}
@@ -36,7 +36,7 @@ use Rattle.machine.specs.Pairing.{pending_future, with_outcome, batch_cursor, de
 use Rattle.order.specs.PairingReads.{Turn, turns}
 use Rattle.order.proofs.Shared.{led, next}
 use Rattle.order.proofs.PairingWalks.{links_that_lead_alike, read_by, node_it_leads_to}
-use Rattle.order.proofs.PairingCounts.{is_enqueue, FlaggedFrom, Flagged, flagged_now, flagged_later}
+use Rattle.order.proofs.PairingCounts.{operation_of, FlaggedFrom, Flagged, flagged_now, flagged_later}
 
 -- the item of a node
 abbrev pub value_of : List Item → ℕ → ℕ
@@ -44,20 +44,20 @@ value_of items n = (item_in items n).value
 
 -- what the turns pay, in their order
 abbrev pub outcomes : List Turn → List Outcome
-outcomes xs = map (λ (x : Turn). x.outcome) xs
+outcomes xs = map (λ (x : Turn). Some x.result) xs
 
 same_links_lead_alike : (l m : Link) → same_link l m ≡ true → led l ≡ led m
 same_links_lead_alike None None e = refl
-same_links_lead_alike None (To y) e = absurd (true≢false (sym e))
-same_links_lead_alike (To x) None e = absurd (true≢false (sym e))
-same_links_lead_alike (To x) (To y) e = ap some (eqb-true x y e)
+same_links_lead_alike None (Some y) e = absurd (true≢false (sym e))
+same_links_lead_alike (Some x) None e = absurd (true≢false (sym e))
+same_links_lead_alike (Some x) (Some y) e = ap some (eqb-true x y e)
 
 neither : (a b : Bool) → (a ≡ true → ⊥) → (b ≡ true → ⊥) → (a || b) ≡ false
 neither true b p q = absurd (p refl)
 neither false true p q = absurd (q refl)
 neither false false p q = refl
 
-module _ (links : List Cell) (chain : List ℕ) (linked : Chain (next links) chain) (items : List Item) (last : ℕ) (pending : List ℕ) where
+module _ (links : List Link) (chain : List ℕ) (linked : Chain (next links) chain) (items : List Item) (last : ℕ) (pending : List ℕ) where
   abbrev values : List ℕ → List ℕ
   values c = map (value_of items) c
 
@@ -90,7 +90,7 @@ module _ (links : List Cell) (chain : List ℕ) (linked : Chain (next links) cha
   Holds k fs node (Dequeues left) cs q = (enqueued cs ≡ []) × DequeuesHold node left q
 
   abbrev link_of : ℕ → Link
-  link_of node = (cell_at links node).link
+  link_of node = link_at links node
 
   -- the node to go on to
   abbrev node_after : ℕ → ℕ
@@ -172,18 +172,18 @@ module _ (links : List Cell) (chain : List ℕ) (linked : Chain (next links) cha
   -- one turn, of the call x: it pays what x gives on the plain list q, and the next turn finds the plain list that x leaves
   abbrev Gives : ℕ → List Future → Call ℕ → List (Call ℕ) → List ℕ → Paid → Type 0
   Gives k fs x cs q p =
-      (p.outcome ≡ outcome_of (result x q)) × Holds (k + 1) (with_outcome pending k fs p.outcome) p.cursor.at p.cursor.supply cs (after x q)
+      (Some p.result ≡ outcome_of (result x q)) × Holds (k + 1) (with_outcome pending k fs (Some p.result)) p.cursor.at p.cursor.supply cs (after x q)
 
   module _ (k : ℕ) (fs : List Future) (node : ℕ) where
     module _ (link : Link) (none_left : Bool) (cs : List (Call ℕ)) (later : (o : Outcome) → FlaggedFrom (k + 1) pending (with_outcome pending k fs o) cs) where
       batch_gives : (x : Call ℕ) (q : List ℕ) → BatchHolds node link none_left q (enqueued (x ∷ cs))
-          → Gives k fs x cs q (pay_batch node link none_left (is_enqueue x) (read_by links items last node (Batch link none_left)))
+          → Gives k fs x cs q (pay_batch node link none_left (operation_of x) (read_by links items last node (Batch link none_left)))
       unfolding result after enqueued
       batch_gives (enqueue v) q h = (refl, (later _, enqueue_holds node link none_left v q (enqueued cs) h))
       batch_gives dequeue [] h = rw (nothing_found node link none_left (enqueued cs) h) (refl, (later _, h))
       batch_gives dequeue (x ∷ q) h =
           rw (something_found node link none_left x q (enqueued cs) h) (
-            ap (λ (v : ℕ). outcome.Item (record { value = v })) (next_one node link none_left x q (enqueued cs) h).1,
+            ap (λ (v : ℕ). Some (call_result.Item (record { value = v }))) (next_one node link none_left x q (enqueued cs) h).1,
             (later _, dequeue_holds node link none_left x q (enqueued cs) h),
           )
 
@@ -195,14 +195,14 @@ module _ (links : List Cell) (chain : List ℕ) (linked : Chain (next links) cha
     dequeues_give left cs dequeue (x ∷ q) none h =
         let on = goes_on h.position node x q h.behind in
         rw (ne_eqb left 0 (λ e. omega (arith, h.many))) (
-          ap (λ (v : ℕ). outcome.Item (record { value = v })) on.1,
+          ap (λ (v : ℕ). Some (call_result.Item (record { value = v }))) on.1,
           (none, record { position = suc h.position; behind = on.0; many = omega (arith, h.many) }),
         )
 
     turn_gives : (s : Supply) (x : Call ℕ) (cs : List (Call ℕ)) (q : List ℕ) → Holds k fs node s (x ∷ cs) q
-        → Gives k fs x cs q (pay node s (pending_future pending k fs).enqueue (read_by links items last node s))
+        → Gives k fs x cs q (pay node s (pending_future pending k fs).operation (read_by links items last node s))
     turn_gives (Batch link none_left) x cs q h =
-        subst (λ (b : Bool). Gives k fs x cs q (pay_batch node link none_left b (read_by links items last node (Batch link none_left)))) (sym (flagged_now pending k fs x cs h.0))
+        subst (λ (o : Operation). Gives k fs x cs q (pay_batch node link none_left o (read_by links items last node (Batch link none_left)))) (sym (flagged_now pending k fs x cs h.0))
         (batch_gives link none_left cs (flagged_later pending k fs x cs h.0) x q h.1)
     turn_gives (Dequeues left) x cs q h = dequeues_give left cs x q h.0 h.1
 
@@ -247,7 +247,7 @@ module _ (links : List Cell) (chain : List ℕ) (linked : Chain (next links) cha
           ap values (drop-drop (p - position) (suc position) chain ∙ ap (λ (n : ℕ). drop n chain) (let z : suc position + (p - position) ≡ suc p = omega arith in z))
           ∙ values_part (enqueues cs) (drop (suc p) chain) ∙ ap (λ (l : List ℕ). l ++ rest) (sym batch)
 
-      holds : BatchHolds from (To first) false q (enqueued cs)
+      holds : BatchHolds from (Some first) false q (enqueued cs)
       holds = record {
         position = position;
         behind = record {

@@ -6,7 +6,7 @@ use native.Mathlib.Omega.{arith}
 use Rattle.chain.specs.Positions.{at}
 use Rattle.chain.proofs.Positions.{none_is_not_some}
 use Rattle.tally.specs.declared.Tally.{Tally}
-use Rattle.cells.specs.declared.Cell.{Cell}
+use Rattle.cells.specs.Links.{Link}
 use Rattle.place.specs.declared.After.{After}
 use Rattle.place.specs.declared.After.TheVariants as afterwards
 use Rattle.row.specs.declared.Row.{Row}
@@ -25,7 +25,7 @@ use Rattle.order.proofs.Steps.{Ok}
 use Rattle.order.proofs.MachineSteps.{step_fine, still_tallied}
 use Rattle.order.proofs.PairingWalks.{enqueues_among, run_batch_stays_on, taken_stay_on, own_tally}
 
-no_turns : (links : List Cell) (chain : List ℕ) → AllStayOn links chain []
+no_turns : (links : List Link) (chain : List ℕ) → AllStayOn links chain []
 unfolding at
 no_turns links chain j x h = absurd (none_is_not_some refl h)
 

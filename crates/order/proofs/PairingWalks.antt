@@ -2,6 +2,7 @@
 -- position q past it. An enqueue moves q on by one, and q stays within the chain because all of the batch's nodes are in it. A dequeue compares the
 -- link behind the current head with the next enqueue's: they are the same link where c + 1 is q, and then it finds nothing; else c + 1 is
 -- before q, so there is a node to go on to, and it is before q as well. In a batch of dequeues the nodes to take are all in the chain.
+use Rattle.std.specs.Prelude.{None, Some}
 use Prim.Native.Nat.{ℕ, zero, suc, ◌+◌, ◌-◌, ◌<◌, ◌≤◌}
 use mathlib.Core.Path.{◌≡◌, refl, sym, ap, ◌∙◌, subst}
 use mathlib.Core.Bool.{Bool, true, false, cond, ◌||◌, true≢false}
@@ -16,14 +17,14 @@ use Rattle.chain.specs.Positions.{at, At, In}
 use Rattle.chain.specs.Chain.{Chain}
 use Rattle.chain.proofs.Positions.{none_is_not_some, some_injective, within, element}
 use Rattle.tally.specs.Tally.{tally_of}
-use Rattle.cells.specs.declared.Cell.{Cell}
-use Rattle.cells.specs.declared.Link.{Link}
-use Rattle.cells.specs.declared.Link.TheVariants.{None, To}
-use Rattle.memory.specs.Memory.{cell_at}
+use Rattle.cells.specs.Links.{Link}
+use Rattle.memory.specs.Memory.{link_at}
 use Rattle.row.specs.declared.Row.{Row}
 use Rattle.answer.specs.declared.Item.{Item}
-use Rattle.answer.specs.declared.Outcome.TheVariants as outcome
+use Rattle.answer.specs.declared.CallResult.TheVariants as call_result
 use Rattle.answer.specs.declared.Future.{Future}
+use Rattle.answer.specs.declared.Operation.{Operation}
+use Rattle.answer.specs.declared.Operation.TheVariants as operation
 use Rattle.pairing.specs.declared.Supply.{Supply}
 use Rattle.pairing.specs.declared.Supply.TheVariants.{Batch, Dequeues}
 use Rattle.pairing.specs.declared.Cursor.{Cursor}
@@ -41,31 +42,39 @@ use Rattle.order.proofs.Fine.{RunToItsEnd, Taken}
 -- the futures with the turns' results, in calling order
 unfoldable pub with_results : List ℕ → ℕ → List Future → List Turn → List Future
 with_results pending k fs [] = fs
-with_results pending k fs (x ∷ xs) = with_results pending (k + 1) (with_outcome pending k fs x.outcome) xs
+with_results pending k fs (x ∷ xs) = with_results pending (k + 1) (with_outcome pending k fs (Some x.result)) xs
+
+-- one more for an enqueue
+abbrev pub one_more_for : Operation → ℕ → ℕ
+one_more_for operation.Enqueue n = suc n
+one_more_for operation.Dequeue n = n
 
 -- how many of the turns pay an enqueue
 unfoldable pub enqueues_among : List Turn → ℕ
 enqueues_among [] = 0
-enqueues_among (x ∷ xs) = cond x.enqueue (suc (enqueues_among xs)) (enqueues_among xs)
+enqueues_among (x ∷ xs) = one_more_for x.operation (enqueues_among xs)
 
 -- the turns are those of pair_from: their results are what it writes
-pub turns_are_pairings : (n : ℕ) (links : List Cell) (items : List Item) (last : ℕ) (pending : List ℕ) (k : ℕ) (fs : List Future) (c : Cursor)
+pub turns_are_pairings : (n : ℕ) (links : List Link) (items : List Item) (last : ℕ) (pending : List ℕ) (k : ℕ) (fs : List Future) (c : Cursor)
     → pair_from n links items last pending k fs c ≡ with_results pending k fs (turns n links items last pending k fs c)
 unfolding pair_from turns with_results
 turns_are_pairings zero links items last pending k fs c = refl
 turns_are_pairings (suc n) links items last pending k fs c = turns_are_pairings n links items last pending (k + 1) _ _
 
-ok_is_no_item : (v : Item) → outcome.Ok ≡ outcome.Item v → ⊥
+ok_is_no_item : (v : Item) → call_result.Ok ≡ call_result.Item v → ⊥
 ok_is_no_item v e = let z : ◌≡◌ {A = ℕ} 0 1 = cc in omega arith
 
-empty_is_no_item : (v : Item) → outcome.Empty ≡ outcome.Item v → ⊥
+empty_is_no_item : (v : Item) → call_result.Empty ≡ call_result.Item v → ⊥
 empty_is_no_item v e = let z : ◌≡◌ {A = ℕ} 0 1 = cc in omega arith
+
+dequeue_is_no_enqueue : operation.Dequeue ≡ operation.Enqueue → ⊥
+dequeue_is_no_enqueue e = let z : ◌≡◌ {A = ℕ} 0 1 = cc in omega arith
 
 pub links_that_lead_alike : (l m : Link) → led l ≡ led m → same_link l m ≡ true
 links_that_lead_alike None None p = refl
-links_that_lead_alike None (To y) p = absurd (none_is_not_some refl p)
-links_that_lead_alike (To x) None p = absurd (none_is_not_some refl (sym p))
-links_that_lead_alike (To x) (To y) p = eq-eqb x y (some_injective p)
+links_that_lead_alike None (Some y) p = absurd (none_is_not_some refl p)
+links_that_lead_alike (Some x) None p = absurd (none_is_not_some refl (sym p))
+links_that_lead_alike (Some x) (Some y) p = eq-eqb x y (some_injective p)
 
 second_is_false : (a b : Bool) → (a || b) ≡ false → b ≡ false
 second_is_false true b e = absurd (true≢false e)
@@ -92,34 +101,34 @@ Ready chain node (Batch link none_left) to_come = BatchReady chain node link to_
 Ready chain node (Dequeues left) to_come = DequeuesReady chain node left
 
 -- what a turn reads
-abbrev pub read_by : List Cell → List Item → ℕ → ℕ → Supply → Around
+abbrev pub read_by : List Link → List Item → ℕ → ℕ → Supply → Around
 read_by links items last node s = around links items last (record { at = node; supply = s })
 
 -- a link that leads to a position of the chain: the node there
 pub node_it_leads_to : (chain : List ℕ) (k : ℕ) (l : Link) (else : ℕ) → led l ≡ at chain k → k < length chain → At chain k (node_behind l else)
 node_it_leads_to chain k None else e h = absurd (none_is_not_some (sym e) (element chain k h).1)
-node_it_leads_to chain k (To x) else e h = sym e
+node_it_leads_to chain k (Some x) else e h = sym e
 
-module _ (links : List Cell) (chain : List ℕ) (linked : Chain (next links) chain) (dummy : At chain 0 0) (items : List Item) (last : ℕ) where
+module _ (links : List Link) (chain : List ℕ) (linked : Chain (next links) chain) (dummy : At chain 0 0) (items : List Item) (last : ℕ) where
   leads_where_there_is_a_node : (k : ℕ) (l : Link) → led l ≡ at chain k → k < length chain → LeadsTo chain l
   leads_where_there_is_a_node k l e h =
       let x = element chain k h in record { node = x.0; is = link_to l x.0 (e ∙ x.1); in_chain = (k, x.1) }
 
   in_chain_or_the_dummy : (k : ℕ) (l : Link) → led l ≡ at chain k → In chain (node_behind l 0)
   in_chain_or_the_dummy k None e = (0, dummy)
-  in_chain_or_the_dummy k (To x) e = (k, sym e)
+  in_chain_or_the_dummy k (Some x) e = (k, sym e)
 
   -- a turn with the result that it pays
-  abbrev turn_with : ℕ → Supply → Bool → Paid → Turn
-  turn_with node s enqueue p = record { cursor = record { at = node; supply = s }; enqueue = enqueue; outcome = p.outcome }
+  abbrev turn_with : ℕ → Supply → Operation → Paid → Turn
+  turn_with node s o p = record { cursor = record { at = node; supply = s }; operation = o; result = p.result }
 
   -- the turn stays on the chain, and the next one can
-  abbrev Pays : ℕ → Supply → Bool → ℕ → Paid → Type 0
-  Pays node s enqueue to_come p = StaysOn links chain (turn_with node s enqueue p) × Ready chain p.cursor.at p.cursor.supply to_come
+  abbrev Pays : ℕ → Supply → Operation → ℕ → Paid → Type 0
+  Pays node s o to_come p = StaysOn links chain (turn_with node s o p) × Ready chain p.cursor.at p.cursor.supply to_come
 
   module _ (node : ℕ) (link : Link) (none_left : Bool) (to_come : ℕ) where
     enqueue_pays : BatchReady chain node link (suc to_come)
-        → Pays node (Batch link none_left) true to_come (pay_batch node link none_left true (read_by links items last node (Batch link none_left)))
+        → Pays node (Batch link none_left) operation.Enqueue to_come (pay_batch node link none_left operation.Enqueue (read_by links items last node (Batch link none_left)))
     enqueue_pays r =
         let inside : r.ahead < length chain = omega (arith, r.room) in (
           record {
@@ -139,25 +148,25 @@ module _ (links : List Cell) (chain : List ℕ) (linked : Chain (next links) cha
         )
 
     dequeue_pays : BatchReady chain node link to_come
-        → Pays node (Batch link none_left) false to_come (pay_batch node link none_left false (read_by links items last node (Batch link none_left)))
+        → Pays node (Batch link none_left) operation.Dequeue to_come (pay_batch node link none_left operation.Dequeue (read_by links items last node (Batch link none_left)))
     dequeue_pays r = by (none_left || same_link behind link) refl
       where
         behind : Link
-        behind = (cell_at links node).link
+        behind = link_at links node
 
         leads_on : led behind ≡ at chain (suc r.position)
         leads_on = linked.links r.position node r.head
 
         by : (b : Bool) → (none_left || same_link behind link) ≡ b
-            → Pays node (Batch link none_left) false to_come
-            (cond b (paid outcome.Empty node (Batch link none_left))
-            (paid (outcome.Item (read_by links items last node (Batch link none_left)).item) (node_behind behind node) (Batch link (eqb (node_behind behind node) last))))
+            → Pays node (Batch link none_left) operation.Dequeue to_come
+            (cond b (paid call_result.Empty node (Batch link none_left))
+            (paid (call_result.Item (read_by links items last node (Batch link none_left)).item) (node_behind behind node) (Batch link (eqb (node_behind behind node) last))))
         by true e = (
           record {
             reads_head = (r.position, r.head);
             reads_next = in_chain_or_the_dummy r.ahead link r.leads;
             goes_on = λ v e. absurd (empty_is_no_item v e);
-            enqueues = λ e. absurd (true≢false (sym e));
+            enqueues = λ e. absurd (dequeue_is_no_enqueue e);
           },
           r,
         )
@@ -169,7 +178,7 @@ module _ (links : List Cell) (chain : List ℕ) (linked : Chain (next links) cha
                 reads_head = (r.position, r.head);
                 reads_next = in_chain_or_the_dummy r.ahead link r.leads;
                 goes_on = λ v e. leads_where_there_is_a_node (suc r.position) behind leads_on inside;
-                enqueues = λ e. absurd (true≢false (sym e));
+                enqueues = λ e. absurd (dequeue_is_no_enqueue e);
               },
               record {
                 position = suc r.position;
@@ -181,19 +190,19 @@ module _ (links : List Cell) (chain : List ℕ) (linked : Chain (next links) cha
               },
             )
 
-  module _ (node left : ℕ) (enqueue : Bool) (to_come : ℕ) where
-    taken_pays : DequeuesReady chain node left → Pays node (Dequeues left) enqueue to_come (pay_dequeues node left (read_by links items last node (Dequeues left)))
+  module _ (node left : ℕ) (o : Operation) (to_come : ℕ) where
+    taken_pays : DequeuesReady chain node left → Pays node (Dequeues left) o to_come (pay_dequeues node left (read_by links items last node (Dequeues left)))
     taken_pays r = by (eqb left 0) refl
       where
         behind : Link
-        behind = (cell_at links node).link
+        behind = link_at links node
 
         leads_on : led behind ≡ at chain (suc r.position)
         leads_on = linked.links r.position node r.head
 
         by : (b : Bool) → eqb left 0 ≡ b
-            → Pays node (Dequeues left) enqueue to_come
-            (cond b (paid outcome.Empty node (Dequeues left)) (paid (outcome.Item (read_by links items last node (Dequeues left)).item) (node_behind behind node) (Dequeues (left - 1))))
+            → Pays node (Dequeues left) o to_come
+            (cond b (paid call_result.Empty node (Dequeues left)) (paid (call_result.Item (read_by links items last node (Dequeues left)).item) (node_behind behind node) (Dequeues (left - 1))))
         by true e = (
           record {
             reads_head = (r.position, r.head);
@@ -220,11 +229,11 @@ module _ (links : List Cell) (chain : List ℕ) (linked : Chain (next links) cha
             )
 
   -- one turn
-  pays : (node : ℕ) (s : Supply) (enqueue : Bool) (to_come : ℕ) → Ready chain node s (cond enqueue (suc to_come) to_come)
-      → Pays node s enqueue to_come (pay node s enqueue (read_by links items last node s))
-  pays node (Batch link none_left) true to_come r = enqueue_pays node link none_left to_come r
-  pays node (Batch link none_left) false to_come r = dequeue_pays node link none_left to_come r
-  pays node (Dequeues left) enqueue to_come r = taken_pays node left enqueue to_come r
+  pays : (node : ℕ) (s : Supply) (o : Operation) (to_come : ℕ) → Ready chain node s (one_more_for o to_come)
+      → Pays node s o to_come (pay node s o (read_by links items last node s))
+  pays node (Batch link none_left) operation.Enqueue to_come r = enqueue_pays node link none_left to_come r
+  pays node (Batch link none_left) operation.Dequeue to_come r = dequeue_pays node link none_left to_come r
+  pays node (Dequeues left) o to_come r = taken_pays node left o to_come r
 
   -- all turns
   pub turns_stay_on : (n : ℕ) (pending : List ℕ) (k : ℕ) (fs : List Future) (c : Cursor)

@@ -1,8 +1,8 @@
 -- What pairing writes: the k-th turn's result into the future of the k-th pending call, and nothing else. The pending calls have futures of their
 -- own, so that no later turn writes where an earlier one did; and a future keeps its owner and its flag.
+use Rattle.std.specs.Prelude.{Some}
 use Prim.Native.Nat.{ℕ, zero, suc, ◌+◌, ◌%◌, ◌<◌, ◌≤◌}
 use mathlib.Core.Path.{◌≡◌, refl, sym, ap, ◌∙◌}
-use mathlib.Core.Bool.{Bool}
 use mathlib.Core.List.{List, [], ◌∷◌}
 use mathlib.Core.Logic.{◌≢◌}
 use native.Mathlib.Omega.{arith}
@@ -11,10 +11,11 @@ use lib.ListN.{length, get_or, length-set, length-map}
 use lib.Seq.{get_or-set_same, get_or-set_other}
 use Rattle.chain.specs.Positions.{at, At}
 use Rattle.chain.proofs.Positions.{none_is_not_some, some_injective, within}
-use Rattle.cells.specs.declared.Cell.{Cell}
+use Rattle.cells.specs.Links.{Link}
 use Rattle.answer.specs.declared.Item.{Item}
-use Rattle.answer.specs.declared.Outcome.{Outcome}
+use Rattle.answer.specs.Answer.{Outcome}
 use Rattle.answer.specs.declared.Future.{Future}
+use Rattle.answer.specs.declared.Operation.{Operation}
 use Rattle.pairing.specs.declared.Cursor.{Cursor}
 use Rattle.machine.specs.State.{no_future}
 use Rattle.machine.specs.Pairing.{pair_from}
@@ -54,14 +55,14 @@ module _ (pending : List ℕ) where
       each_has_its_own xs (k + 1) _ (length-set fs _ _ ∙ long) (λ a b p q r s. apart a b (omega arith) (omega arith) (omega arith) (omega arith))
       i j o (omega arith) h
 
-module _ (links : List Cell) (items : List Item) (last : ℕ) (pending : List ℕ) where
+module _ (links : List Link) (items : List Item) (last : ℕ) (pending : List ℕ) where
   as_many_turns : (n k : ℕ) (fs : List Future) (c : Cursor) → length (turns n links items last pending k fs c) ≡ n
   unfolding turns
   as_many_turns zero k fs c = refl
   as_many_turns (suc n) k fs c = ap suc (as_many_turns n (k + 1) _ _)
 
   pub as_many_outcomes : (n k : ℕ) (fs : List Future) (c : Cursor) → length (outcomes (turns n links items last pending k fs c)) ≡ n
-  as_many_outcomes n k fs c = length-map (turns n links items last pending k fs c) (λ (x : Turn). x.outcome) ∙ as_many_turns n k fs c
+  as_many_outcomes n k fs c = length-map (turns n links items last pending k fs c) (λ (x : Turn). Some x.result) ∙ as_many_turns n k fs c
 
   -- pairing keeps the owners and the flags, and as many futures
   pub pair_keeps : (n k : ℕ) (fs : List Future) (c : Cursor)
@@ -75,7 +76,7 @@ module _ (links : List Cell) (items : List Item) (last : ℕ) (pending : List �
 
   pub owners_kept : (n k : ℕ) (fs : List Future) (c : Cursor) (f : ℕ)
       → (get_or (pair_from n links items last pending k fs c) f no_future).owner ≡ (get_or fs f no_future).owner
-  owners_kept n k fs c f = ap (λ (x : ℕ × Bool). x.0) ((pair_keeps n k fs c).0 f)
+  owners_kept n k fs c f = ap (λ (x : ℕ × Operation). x.0) ((pair_keeps n k fs c).0 f)
 
   -- the pending calls' numbers are those of futures
   module _ (n : ℕ) (few : n ≤ 32) (small : (j : ℕ) → j < n → get_or pending j 0 < 512) (fs : List Future) (c : Cursor) where

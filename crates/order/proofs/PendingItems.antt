@@ -14,7 +14,7 @@ use Rattle.chain.proofs.Positions.{map_same}
 use Rattle.tally.specs.Fifo.{Call, enqueue, dequeue}
 use Rattle.tally.specs.Excess.{enqueued}
 use Rattle.tally.proofs.Counts.{enqueued_append}
-use Rattle.cells.specs.declared.Cell.{Cell}
+use Rattle.cells.specs.Links.{Link}
 use Rattle.memory.specs.Memory.{perform}
 use Rattle.place.specs.declared.Place.{Place}
 use Rattle.place.specs.declared.Place.TheVariants as place
@@ -231,7 +231,7 @@ module _ (m : Machine) (g : Ghost) (ok : Ok m g) (h : PendingItems m g) (i : ℕ
       was_idle : (row_at m i).place ≡ Idle → HoldItems m₁ (pending_of g₁ i) (row_at m i)
       was_idle idle =
           ap enqueued (pending₁ i) ∙ h.each i lt idle
-          ∙ ap₂ (λ (f : List Item) (l : List Cell). map (value_of f) (pending_nodes l (row_at m i))) (sym items₁) (sym (idle_links idle))
+          ∙ ap₂ (λ (f : List Item) (l : List Link). map (value_of f) (pending_nodes l (row_at m i))) (sym items₁) (sym (idle_links idle))
 
   single_ends : (a : After) → (hop m i).after ≡ a → Alone g₁ i → PendingItems m₁ g₁
   single_ends a e alone = hopped a e (λ q. nothing_held m₁ (pending_of g₁ i) (row_at m i) alone (alone_tally g i (row_at m i) (ok.knows i lt).tallied (sym (pending₁ i) ∙ alone)))

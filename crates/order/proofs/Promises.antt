@@ -1,4 +1,5 @@
 -- The promises hold after any list of entries from a fresh machine.
+use Rattle.std.specs.Prelude.{Some}
 use Prim.Native.Nat.{ℕ, suc, ◌<◌}
 use mathlib.Core.Path.{◌≡◌, refl, sym, ap, ◌∙◌, subst}
 use mathlib.Core.List.{List, [], ◌∷◌, ◌++◌}
@@ -12,14 +13,12 @@ use Rattle.chain.specs.Positions.{at, At, In}
 use Rattle.chain.specs.Chain.{Chain}
 use Rattle.chain.proofs.Positions.{some_injective, within, element, at_left}
 use Rattle.chain.proofs.Following.{meets_the_rest}
-use Rattle.cells.specs.declared.Link.TheVariants.{To}
-use Rattle.memory.specs.Memory.{cell_at}
+use Rattle.memory.specs.Memory.{link_at}
 use Rattle.place.specs.declared.Place.{Place}
 use Rattle.place.specs.declared.Place.TheVariants.{Idle, Enqueue, Dequeue, Batch, Dequeues, Running}
 use Rattle.place.specs.declared.DequeuesStep.TheVariants.{Q1, Q2, Q3}
 use Rattle.place.specs.declared.RunStep.TheVariants.{A1, A2, A3, A4, A5, A6, A7, A8}
 use Rattle.row.specs.declared.Row.{Row}
-use Rattle.answer.specs.declared.Verdict.TheVariants.{Accepted}
 use Rattle.entry.specs.declared.Entry.{Entry}
 use Rattle.entry.specs.Range.{in_range}
 use Rattle.machine.specs.declared.Machine.{Machine}
@@ -42,6 +41,7 @@ use Rattle.order.proofs.Flags.{Flags, flagged_here}
 use Rattle.order.proofs.Fits.{fits}
 use Rattle.order.proofs.Reached.{fresh_holds, after_holds}
 use Rattle.order.proofs.LinkedSoFar.{Tells, one_more, batch_nodes_lem, place_tells, after_tells, fresh_tells}
+use Rattle.refusal.specs.Verdicts.{accepted}
 
 module _ (m : Machine) (g : Ghost) (ok : Ok m g) (steps : List (List ℕ)) (h : Tells g steps) (flags : Flags m g) where
   -- a node of the chain beside the machine is a linked node
@@ -104,7 +104,7 @@ module _ (m : Machine) (g : Ghost) (ok : Ok m g) (steps : List (List ℕ)) (h : 
   }
 
   -- a6 has as many nodes ahead of it as it has still to go
-  a6_reads_on : (t a : ℕ) (r : Row) → In g.installed a → (rise x left : ℕ) → KnowsRun (shared_of m) g a (A6 rise x left) → (y : ℕ) × ((cell_at m.links x).link ≡ To y)
+  a6_reads_on : (t a : ℕ) (r : Row) → In g.installed a → (rise x left : ℕ) → KnowsRun (shared_of m) g a (A6 rise x left) → (y : ℕ) × (link_at m.links x ≡ Some y)
   a6_reads_on t a r there rise x left w =
       let y = element g.chain (suc w.1) (omega (arith, goal_within (shared_of m) g ok.inv t r a there w.0, w.3, w.4)) in
       (y.0, link_leads_on m.links ok.inv.chain.chain w.1 x y.0 w.2 y.1)
@@ -154,7 +154,7 @@ module _ (m : Machine) (g : Ghost) (ok : Ok m g) (steps : List (List ℕ)) (h : 
   queue : Queue m steps
   queue = record { chain = one_chain; tail = tail_near; heads = heads_linked; walks = walks_stay_on; batches = batches_whole; fits = fits m g ok flags }
 
-pub the_queue_is_a_queue : (threads nodes : ℕ) → in_range threads nodes ≡ Accepted → (es : List Entry)
+pub the_queue_is_a_queue : (threads nodes : ℕ) → in_range threads nodes ≡ accepted → (es : List Entry)
     → Queue (after (fresh_machine threads nodes) es) (link_steps (fresh_machine threads nodes) es)
 the_queue_is_a_queue threads nodes e es =
     let fresh = fresh_holds threads nodes e in

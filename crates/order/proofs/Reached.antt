@@ -1,4 +1,5 @@
 -- From a fresh machine, over any list of entries: the invariant and the flags hold at the start, and every event keeps them.
+use Rattle.std.specs.Prelude.{Option, None}
 use Prim.Native.Nat.{ℕ, zero, suc, ◌<◌, ◌≤◌, ◌%◌}
 use mathlib.Core.Path.{◌≡◌, refl, sym, ap, ◌∙◌, subst}
 use mathlib.Core.List.{List, [], ◌∷◌}
@@ -10,11 +11,9 @@ use Rattle.chain.proofs.Positions.{none_is_not_some, some_injective, within, pas
 use Rattle.tally.specs.Fifo.{Call}
 use Rattle.tally.specs.Tally.{tally_of}
 use Rattle.tally.proofs.Counts.{tally_of_none}
-use Rattle.cells.specs.declared.Cell.{Cell}
 use Rattle.cells.specs.declared.Front.{Front}
-use Rattle.memory.specs.Memory.{no_cell, no_announcement}
+use Rattle.memory.specs.Memory.{no_announcement}
 use Rattle.row.specs.Row.{fresh_row, no_row}
-use Rattle.answer.specs.declared.Verdict.TheVariants.{Accepted}
 use Rattle.entry.specs.declared.Entry.{Entry}
 use Rattle.entry.specs.Range.{in_range}
 use Rattle.entry.proofs.Range.{in_range_lem}
@@ -32,6 +31,7 @@ use Rattle.order.proofs.Steps.{Ok, nothing_private}
 use Rattle.order.proofs.EventsKeep.{event_keeps}
 use Rattle.order.proofs.Flags.{Flags}
 use Rattle.order.proofs.FlagsKept.{event_flags, fresh_flags}
+use Rattle.refusal.specs.Verdicts.{accepted}
 
 -- an element of a table that holds one value everywhere
 everywhere : {A : Type 0} (n i : ℕ) (a : A) → get_or (replicate n a) i a ≡ a
@@ -49,7 +49,7 @@ nobody (suc j) a p = none_is_not_some refl p
 
 module _ (threads nodes : ℕ) (fits : nodes ≤ 512) (few : threads ≤ 8) where
   no_link : (n : ℕ) → next (fresh_machine threads nodes).links n ≡ none
-  no_link n = ap (λ (c : Cell). led c.link) (everywhere 512 (n % 512) no_cell)
+  no_link n = ap led (everywhere 512 (n % 512) None)
 
   fresh_inv : Inv (shared_of (fresh_machine threads nodes)) fresh_ghost
   unfolding at
@@ -59,7 +59,7 @@ module _ (threads nodes : ℕ) (fits : nodes ≤ 512) (few : threads ≤ 8) wher
       chain = record { links = λ k n p. no_link n ∙ sym (past_the_end (0 ∷ []) (suc k) (omega arith)); once = λ a b n p q. omega (arith, the_dummy a n p, the_dummy b n q) };
       in_use = λ k n p. omega (arith, the_dummy k n p);
       room = omega arith;
-      cells = length-replicate 512 no_cell;
+      cells = length-replicate {A = Option ℕ} 512 None;
       owned = refl;
     };
     ends = record {
@@ -122,13 +122,13 @@ holds_sized m g h = record { threads = h.ok.threads; rows = h.ok.rows; futures =
 pub event_holds : (m : Machine) (g : Ghost) (x : Event) → Finds m x → Holds m g → Holds (does m x) (ghost_does m g x)
 event_holds m g x finds h = record { ok = event_keeps m g h.ok x finds; flags = event_flags m g h.ok h.flags x finds }
 
-pub fresh_holds : (threads nodes : ℕ) → in_range threads nodes ≡ Accepted → Holds (fresh_machine threads nodes) fresh_ghost
+pub fresh_holds : (threads nodes : ℕ) → in_range threads nodes ≡ accepted → Holds (fresh_machine threads nodes) fresh_ghost
 fresh_holds threads nodes e = let w = in_range_lem threads nodes e in record { ok = fresh_ok threads nodes w.1 w.0; flags = fresh_flags threads nodes }
 
 -- over a list of entries
 pub after_holds : (es : List Entry) (m : Machine) (g : Ghost) → Holds m g → Holds (after m es) (kept_beside ghost_does m g (events m es))
 after_holds = over_entries ghost_does Holds holds_sized event_holds
 
-pub events_lead_there : (threads nodes : ℕ) → in_range threads nodes ≡ Accepted → (es : List Entry)
+pub events_lead_there : (threads nodes : ℕ) → in_range threads nodes ≡ accepted → (es : List Entry)
     → after (fresh_machine threads nodes) es ≡ after_events (fresh_machine threads nodes) (events (fresh_machine threads nodes) es)
 events_lead_there threads nodes e es = (entries_made ghost_does Holds holds_sized event_holds es _ fresh_ghost (fresh_holds threads nodes e)).leads

@@ -9,21 +9,18 @@ use mathlib.Core.Option.{Option, none, some}
 use native.Mathlib.Omega.{arith}
 use lib.Dec.{eqb}
 use lib.ListN.{get_or}
+use Rattle.std.specs.Prelude.{None, Some}
 use Rattle.refusal.specs.declared.Refusal.TheVariants.{NotOwnFuture}
 use Rattle.tally.specs.Fifo.{Result}
-use Rattle.answer.specs.declared.Outcome.{Outcome}
-use Rattle.answer.specs.declared.Outcome.TheVariants as outcome
-use Rattle.answer.specs.declared.Answer.{Answer}
+use Rattle.answer.specs.Answer.{Outcome, AnswerOrRefusal, answered}
+use Rattle.answer.specs.declared.CallResult.TheVariants as call_result
+use Rattle.std.specs.declared.result.Result.TheVariants as reply
 use Rattle.answer.specs.declared.Answer.TheVariants as answer
-use Rattle.answer.specs.declared.Verdict.{Verdict}
-use Rattle.answer.specs.declared.Verdict.TheVariants.{Accepted, Refused}
 use Rattle.entry.specs.declared.Entry.{Entry}
 use Rattle.entry.specs.declared.Entry.TheVariants as entry
-use Rattle.answer.specs.Answer.{answered}
 use Rattle.entry.specs.Range.{in_range}
 use Rattle.needs.specs.Needs.{lacking, evaluate_needs}
 use Rattle.refuse.specs.Refusals.{foreign}
-use Rattle.answer.specs.Verdicts.{where_accepted}
 use Rattle.machine.specs.declared.Machine.{Machine}
 use Rattle.machine.specs.declared.Told.{Told}
 use Rattle.machine.specs.State.{fresh_machine, row_at, no_future, future_at}
@@ -37,12 +34,14 @@ use Rattle.order.specs.Reached.{after}
 use Rattle.order.proofs.Ghost.{Ghost, fresh_ghost}
 use Rattle.order.proofs.Events.{entry_made}
 use Rattle.order.proofs.Reached.{Holds, holds_sized, fresh_holds, after_holds}
+use Rattle.refusal.specs.Verdicts.{Verdict, accepted, where_accepted}
+use Rattle.std.specs.Prelude.{Err, Ok}
 
 abbrev results_of : List Given → List (ℕ × Result ℕ)
 results_of = map (λ (g : Given). (g.thread, g.result))
 
 -- the result in an answer to thread i, where it is one
-abbrev told_to : ℕ → Answer → List (ℕ × Result ℕ)
+abbrev told_to : ℕ → AnswerOrRefusal → List (ℕ × Result ℕ)
 told_to i a = map (λ (r : Result ℕ). (i, r)) (results_in a)
 
 -- the result that an event gives, where it gives one
@@ -52,7 +51,7 @@ results_at m (DequeueStarts i) = []
 results_at m (EnqueueDeferred i v) = []
 results_at m (DequeueDeferred i) = []
 results_at m (BatchSetOff i f) = []
-results_at m (FutureAsked i f) = told_to i (answered (future_at m f).outcome)
+results_at m (FutureAsked i f) = told_to i (reply.Ok (answered (future_at m f).outcome))
 results_at m (StepTaken i) = told_to i (step_of m i).answer
 
 unfoldable results_among : Machine → List Event → List (ℕ × Result ℕ)
@@ -61,7 +60,7 @@ results_among m (x ∷ xs) = results_at m x ++ results_among (does m x) xs
 
 -- THE STORY has them, one after the other.
 module _ (i : ℕ) (f began : Option ℕ) (now : ℕ) where
-  gives_its_result : (gs : List Given) (a : Answer) → results_of (gs ++ gives i f began now a) ≡ results_of gs ++ told_to i a
+  gives_its_result : (gs : List Given) (a : AnswerOrRefusal) → results_of (gs ++ gives i f began now a) ≡ results_of gs ++ told_to i a
   gives_its_result gs a = map-append _ gs (gives i f began now a) ∙ ap (λ (l : List (ℕ × Result ℕ)). results_of gs ++ l) (map-map _ _ (results_in a))
 
 event_told : (m : Machine) (s : Story) (x : Event) → results_of (happens m s x).given ≡ results_of s.given ++ results_at m x
@@ -70,7 +69,7 @@ event_told m s (DequeueStarts i) = sym (append-nil _)
 event_told m s (EnqueueDeferred i v) = sym (append-nil _)
 event_told m s (DequeueDeferred i) = sym (append-nil _)
 event_told m s (BatchSetOff i f) = sym (append-nil _)
-event_told m s (FutureAsked i f) = gives_its_result i (some f) none s.clock s.given (answered (future_at m f).outcome)
+event_told m s (FutureAsked i f) = gives_its_result i (some f) none s.clock s.given (reply.Ok (answered (future_at m f).outcome))
 event_told m s (StepTaken i) = gives_its_result i (of s i).called.asked (some (of s i).called.began) s.clock s.given (step_of m i).answer
 
 events_told : (xs : List Event) (m : Machine) (s : Story) → results_of (kept_beside happens m s xs).given ≡ results_of s.given ++ results_among m xs
@@ -85,8 +84,8 @@ events_told (x ∷ xs) m s =
 decided_tells : (v : Verdict) (m : Machine) (i : ℕ) (x : Told) (es : List Event) → results_among m es ≡ told_to i x.answer
     → results_among m (where_accepted v es []) ≡ told_to i (decided v m x).answer
 unfolding decided results_among
-decided_tells Accepted m i x es e = e
-decided_tells (Refused r) m i x es e = refl
+decided_tells (Ok ok) m i x es e = e
+decided_tells (Err r) m i x es e = refl
 
 -- Run tells the result of its last step; those before it answer more
 run_tells : (n : ℕ) (m : Machine) (i : ℕ) → results_among m (run_events n m i) ≡ told_to i (advance m i n).answer
@@ -94,16 +93,16 @@ unfolding advance run_events results_among
 run_tells zero m i = refl
 run_tells (suc n) m i = by (step_of m i).answer refl (run_tells n (step_of m i).machine i)
   where
-    by : (a : Answer) → (step_of m i).answer ≡ a → results_among (step_of m i).machine (run_events n (step_of m i).machine i) ≡ told_to i (advance (step_of m i).machine i n).answer
+    by : (a : AnswerOrRefusal) → (step_of m i).answer ≡ a → results_among (step_of m i).machine (run_events n (step_of m i).machine i) ≡ told_to i (advance (step_of m i).machine i n).answer
         → told_to i a ++ results_among (step_of m i).machine (cond (is_more a) (run_events n (step_of m i).machine i) [])
         ≡ told_to i (cond (is_more a) (one_more (advance (step_of m i).machine i n)) (step_of m i)).answer
-    by answer.More e rest = rest
-    by answer.Ok e rest = ap (told_to i) (sym e)
-    by (answer.Item v) e rest = ap (told_to i) (sym e)
-    by answer.Empty e rest = ap (told_to i) (sym e)
-    by answer.Started e rest = ap (told_to i) (sym e)
-    by (answer.Future f) e rest = ap (told_to i) (sym e)
-    by (answer.Refused r) e rest = ap (told_to i) (sym e)
+    by (reply.Ok answer.More) e rest = rest
+    by (reply.Ok (answer.Ended call_result.Ok)) e rest = ap (told_to i) (sym e)
+    by (reply.Ok (answer.Ended (call_result.Item v))) e rest = ap (told_to i) (sym e)
+    by (reply.Ok (answer.Ended call_result.Empty)) e rest = ap (told_to i) (sym e)
+    by (reply.Ok answer.Started) e rest = ap (told_to i) (sym e)
+    by (reply.Ok (answer.Future f)) e rest = ap (told_to i) (sym e)
+    by (reply.Err r) e rest = ap (told_to i) (sym e)
 
 module _ (m : Machine) where
   -- a call that starts gives nothing yet, whether alone or deferred and set off
@@ -113,10 +112,8 @@ module _ (m : Machine) where
 
   own_tells : (i f : ℕ) (o : Outcome) → (future_at m f).outcome ≡ o → results_among m (evaluate_own_events m i f o) ≡ told_to i (evaluate_own m i f o).answer
   unfolding evaluate_own evaluate_waiting results_among
-  own_tells i f outcome.Waiting e = decided_tells (lacking (evaluate_needs (row_at m i)) m.used m.nodes (row_at m i).count) m i _ _ refl
-  own_tells i f outcome.Ok e = append-nil _ ∙ ap (λ (o : Outcome). told_to i (answered o)) e
-  own_tells i f (outcome.Item v) e = append-nil _ ∙ ap (λ (o : Outcome). told_to i (answered o)) e
-  own_tells i f outcome.Empty e = append-nil _ ∙ ap (λ (o : Outcome). told_to i (answered o)) e
+  own_tells i f None e = decided_tells (lacking (evaluate_needs (row_at m i)) m.used m.nodes (row_at m i).count) m i _ _ refl
+  own_tells i f (Some result) e = append-nil _ ∙ ap (λ (o : Outcome). told_to i (reply.Ok (answered o))) e
 
   known_tells : (t f : ℕ) → results_among m (evaluate_events m t f (future_at m f)) ≡ told_to (t % 8) (evaluate_known m t f (future_at m f)).answer
   unfolding evaluate_known results_among
@@ -156,7 +153,7 @@ entries_tell (e ∷ es) m g h =
     (ap (λ (x : Machine). results_among x (events (apply m e).machine es)) (sym (entry_made m (holds_sized m g h) e).leads)
     ∙ entries_tell es (apply m e).machine _ (after_holds (e ∷ []) m g h))
 
-pub results_are_told : (threads nodes : ℕ) → in_range threads nodes ≡ Accepted → (es : List Entry)
+pub results_are_told : (threads nodes : ℕ) → in_range threads nodes ≡ accepted → (es : List Entry)
     → results_told (fresh_machine threads nodes) es ≡ map (λ (g : Given). (g.thread, g.result)) (story_of (fresh_machine threads nodes) es).given
 results_are_told threads nodes e es =
     sym (events_told (events (fresh_machine threads nodes) es) (fresh_machine threads nodes) fresh_story ∙ entries_tell es (fresh_machine threads nodes) fresh_ghost (fresh_holds threads nodes e))

@@ -1,5 +1,6 @@
 -- Batch with an enqueue: it takes effect when a3 is taken, by whichever thread, on what its announcement found between the old head and the tail; from
 -- then on the abstract head is the one that a7 will set. b2 and a7 change the head and leave the abstract head where it is.
+use Rattle.std.specs.Prelude.{None, Some}
 use Prim.Native.Nat.{ℕ, suc, ◌+◌, ◌-◌, ◌%◌, ◌≤◌}
 use mathlib.Core.Path.{◌≡◌, refl, sym, ap, ap₂, ◌∙◌, subst}
 use mathlib.Core.Bool.{Bool, true, false, cond}
@@ -22,11 +23,10 @@ use Rattle.cells.specs.declared.Head.{Head}
 use Rattle.cells.specs.declared.Head.TheVariants.{Plain, Announced}
 use Rattle.cells.specs.declared.Front.{Front}
 use Rattle.cells.specs.declared.Tail.{Tail}
-use Rattle.cells.specs.declared.Link.{Link}
-use Rattle.cells.specs.declared.Link.TheVariants.{None, To}
+use Rattle.cells.specs.Links.{Link}
 use Rattle.cells.specs.declared.Announcement.{Announcement}
 use Rattle.cells.specs.Ends.{past_front, past_tail, same_head, same_tail}
-use Rattle.memory.specs.Memory.{Memory, cell_at, announcement_at, no_announcement, with_head, with_link, with_announcement, laid_over, link_cas, head_cas, perform}
+use Rattle.memory.specs.Memory.{Memory, link_at, announcement_at, no_announcement, with_head, with_link, with_announcement, laid_over, link_cas, head_cas, perform}
 use Rattle.found.specs.Found.{link_in, taken_in}
 use Rattle.place.specs.declared.Resume.{Resume}
 use Rattle.place.specs.declared.Resume.TheVariants as resume
@@ -127,10 +127,10 @@ module _ (m : Machine) (g : Ghost) (s : Story) (i : ℕ) (r : Row) (here : Here 
 
     -- a3, taken
     module _ (l : Tail) (knows : KnowsRun (shared_of m) g a (A3 l)) (free : next m.links l.node ≡ none)
-        (inv' : Inv (in_memory (shared_of m) (with_link (memory_of m) l.node (To (request_in m a).first))) (joins g l (batch_of g a).nodes (some a)))
-        (grows : Grows (shared_of m) g (in_memory (shared_of m) (with_link (memory_of m) l.node (To (request_in m a).first))) (joins g l (batch_of g a).nodes (some a))) where
+        (inv' : Inv (in_memory (shared_of m) (with_link (memory_of m) l.node (Some (request_in m a).first))) (joins g l (batch_of g a).nodes (some a)))
+        (grows : Grows (shared_of m) g (in_memory (shared_of m) (with_link (memory_of m) l.node (Some (request_in m a).first))) (joins g l (batch_of g a).nodes (some a))) where
       abbrev m' : Machine
-      m' = with_memory m (with_link (memory_of m) l.node (To (request_in m a).first))
+      m' = with_memory m (with_link (memory_of m) l.node (Some (request_in m a).first))
 
       abbrev g' : Ghost
       g' = joins g l (batch_of g a).nodes (some a)
@@ -242,14 +242,14 @@ module _ (m : Machine) (g : Ghost) (s : Story) (i : ℕ) (r : Row) (here : Here 
         knows = stays_known m' g' s' (onward i own);
       }
 
-    a3_order : (l : Tail) → KnowsRun (shared_of m) g a (A3 l) → (v : Link) → (cell_at m.links l.node).link ≡ v
+    a3_order : (l : Tail) → KnowsRun (shared_of m) g a (A3 l) → (v : Link) → link_at m.links l.node ≡ v
         → Inv (in_memory (shared_of m) (link_cas (memory_of m) l.node (request_in m a).first v).memory) (if_none v (joins g l (batch_of g a).nodes (some a)) g)
         → Grows (shared_of m) g (in_memory (shared_of m) (link_cas (memory_of m) l.node (request_in m a).first v).memory) (if_none v (joins g l (batch_of g a).nodes (some a)) g)
         → OrderFine m g s i r (with_memory m (link_cas (memory_of m) l.node (request_in m a).first v).memory) (if_none v (joins g l (batch_of g a).nodes (some a)) g)
         (step_story s i (if_none v (s.order ++ (record { call = get_or s.announced a no_called; place = s.clock } ∷ [])) s.order) read)
         (running_at a k (after_a3 l (link_in (link_cas (memory_of m) l.node (request_in m a).first v).found) (request_in m a).first))
     a3_order l knows None e inv' grows = a3_taken l knows (ap led e) inv' grows
-    a3_order l knows (To x) e inv' grows =
+    a3_order l knows (Some x) e inv' grows =
         either_way (λ (y : RunStep). OrderFine m g s i r (with_memory m (memory_of m)) g (step_story s i s.order read) (running_at a k y)) (eqb x (request_in m a).first) (λ q. runs_on (A4 l)) (λ q. runs_on (A8 l x))
 
     -- a7: back to the call, or the own one ends
@@ -310,9 +310,9 @@ module _ (m : Machine) (g : Ghost) (s : Story) (i : ℕ) (r : Row) (here : Here 
     unfolding perform run_access run_after
     run_order_lem A1 q inv' grows = runs_on (A2 m.ends.tail)
     run_order_lem (A2 l) q inv' grows = runs_on (after_a2 l (announcement_at m.announcements a).old_tail)
-    run_order_lem (A3 l) q inv' grows = a3_order l q (cell_at m.links l.node).link refl inv' grows
+    run_order_lem (A3 l) q inv' grows = a3_order l q (link_at m.links l.node) refl inv' grows
     run_order_lem (A4 l) q inv' grows = quietly m g s i r here _ inv' grows refl (running_at a k (A5 l)) (stays_known _ g _)
     run_order_lem (A5 o) q inv' grows = moves_the_tail m g s i r here _ (same_tail m.ends.tail o) (running_at a k (walk_to (request_in m a) o)) inv' grows (stays_known _ g _)
-    run_order_lem (A6 rise x left) q inv' grows = runs_on (after_a6 rise x left (cell_at m.links x).link)
+    run_order_lem (A6 rise x left) q inv' grows = runs_on (after_a6 rise x left (link_at m.links x))
     run_order_lem (A7 rise x) q inv' grows = a7_order rise x q (same_head m.ends.head (Announced a)) refl inv' grows
     run_order_lem (A8 l x) q inv' grows = moves_the_tail m g s i r here (past_tail l x 1) (same_tail m.ends.tail l) (running_at a k A1) inv' grows (stays_known _ g _)

@@ -1,5 +1,6 @@
 -- Running an announcement, what its reads tell: a1, a2, the links found at a3 and a6, and the way to the new head after a5. A late helper's a3
 -- finds the link set: either by its own batch, or by a link step that the tail has passed or that is a single enqueue's.
+use Rattle.std.specs.Prelude.{None, Some}
 use Prim.Native.Nat.{ℕ, zero, suc, ◌+◌, ◌-◌, ◌<◌, ◌≤◌}
 use mathlib.Core.Path.{◌≡◌, refl, sym, ap, ◌∙◌, subst}
 use mathlib.Core.Bool.{Bool, true, false, cond}
@@ -19,12 +20,9 @@ use Rattle.tally.proofs.Counts.{successful_le_present}
 use Rattle.tally.specs.declared.Tally.{Tally}
 use Rattle.cells.specs.declared.Tail.{Tail}
 use Rattle.cells.specs.declared.Head.TheVariants.{Announced}
-use Rattle.cells.specs.declared.Link.{Link}
-use Rattle.cells.specs.declared.Link.TheVariants.{None, To}
-use Rattle.cells.specs.declared.OldTail.{OldTail}
-use Rattle.cells.specs.declared.OldTail.TheVariants.{Unset, Set}
+use Rattle.cells.specs.Links.{Link, OldTail}
 use Rattle.cells.specs.declared.Request.{Request}
-use Rattle.memory.specs.Memory.{cell_at, announcement_at}
+use Rattle.memory.specs.Memory.{link_at, announcement_at}
 use Rattle.place.specs.declared.RunStep.{RunStep}
 use Rattle.place.specs.declared.RunStep.TheVariants.{A1, A2, A3, A4, A5, A6, A7, A8}
 use Rattle.running.specs.Running.{after_a2, after_a6, size_at, walk_to}
@@ -66,8 +64,8 @@ module _ (s : Shared) (g : Ghost) (i : Inv s g) (t : ℕ) (r : Row) (a : ℕ) (t
   after_a1 = (tail_now s g i t r, λ p l n. i.linked.not_past a l.step p l.is l.from n)
 
   pub after_a2_lem : (l : Tail) → KnowsRun s g a (A2 l) → (o : OldTail) → (announcement_at s.announcements a).old_tail ≡ o → KnowsRun s g a (after_a2 l o)
-  after_a2_lem l k Unset e = (k.0, λ p w. k.1 p w e)
-  after_a2_lem l k (Set o) e = e
+  after_a2_lem l k None e = (k.0, λ p w. k.1 p w e)
+  after_a2_lem l k (Some o) e = e
 
   pub the_batch : (b : Batch) × At g.batches a b
   the_batch = i.head.has_batch a there
@@ -151,10 +149,10 @@ module _ (s : Shared) (g : Ghost) (i : Inv s g) (t : ℕ) (r : Row) (a : ℕ) (t
   goal_within p = goal_in_chain p.old.count.0 (i.linked.old_tails a p.old p.is there).0
 
   -- a6 never meets a missing link
-  pub after_a6_lem : (rise x left : ℕ) → KnowsRun s g a (A6 rise x left) → (v : Link) → (cell_at s.links x).link ≡ v → KnowsRun s g a (after_a6 rise x left v)
+  pub after_a6_lem : (rise x left : ℕ) → KnowsRun s g a (A6 rise x left) → (v : Link) → link_at s.links x ≡ v → KnowsRun s g a (after_a6 rise x left v)
   after_a6_lem rise x left k None e =
       absurd (let z = none_is_the_last i.chain.chain k.1 x k.2 (ap led e) in omega (arith, goal_within k.0, k.3, k.4))
-  after_a6_lem rise x left k (To y) e = on (leb left 1) refl
+  after_a6_lem rise x left k (Some y) e = on (leb left 1) refl
     where
       behind : At g.chain (suc k.1) y
       behind = found_behind s g i t r k.1 x y k.2 e

@@ -1,5 +1,6 @@
 -- Running an announcement, a1 to a8, by its owner or a helper: a3 is the link step of its batch, a5 moves the tail over the batch, a7 puts the
 -- head to the node that the walk has reached.
+use Rattle.std.specs.Prelude.{None, Some}
 use Prim.Native.Nat.{ℕ, suc, ◌+◌, ◌≤◌}
 use mathlib.Core.Path.{◌≡◌, refl, sym, ap, ◌∙◌, subst}
 use mathlib.Core.Bool.{Bool, true, false}
@@ -16,13 +17,11 @@ use Rattle.refusal.proofs.Tests.{either_way}
 use Rattle.cells.specs.declared.Tail.{Tail}
 use Rattle.cells.specs.declared.Front.{Front}
 use Rattle.cells.specs.declared.Head.TheVariants.{Plain, Announced}
-use Rattle.cells.specs.declared.Link.{Link}
-use Rattle.cells.specs.declared.Link.TheVariants.{None, To}
-use Rattle.cells.specs.declared.OldTail.TheVariants.{Set}
+use Rattle.cells.specs.Links.{Link}
 use Rattle.found.specs.declared.Found.{Found}
 use Rattle.found.specs.declared.Found.TheVariants as found
 use Rattle.cells.specs.Ends.{past_tail, past_front, same_tail, same_head}
-use Rattle.memory.specs.Memory.{cell_at, announcement_at, reads, link_cas, tail_cas, head_cas, perform}
+use Rattle.memory.specs.Memory.{link_at, announcement_at, reads, link_cas, tail_cas, head_cas, perform}
 use Rattle.found.specs.Found.{link_in}
 use Rattle.place.specs.declared.Resume.{Resume}
 use Rattle.place.specs.declared.Resume.TheVariants as resume
@@ -86,10 +85,10 @@ module _ (s : Shared) (g : Ghost) (i : Inv s g) (t : ℕ) (r : Row) (a : ℕ) (k
     abbrev nodes : List ℕ
     nodes = (batch_of g a).nodes
 
-    a3_grows : Grows s g (with_links s (linked s.links l.node (To (request_of s a).first))) (joins g l nodes (some a))
+    a3_grows : Grows s g (with_links s (linked s.links l.node (Some (request_of s a).first))) (joins g l nodes (some a))
     a3_grows = join_grows s g i nodes (request_of s a).first (some a) l h.0 free batch_joins
 
-    a3_spares : (u : ℕ) → Spares s g (with_links s (linked s.links l.node (To (request_of s a).first))) (joins g l nodes (some a)) u
+    a3_spares : (u : ℕ) → Spares s g (with_links s (linked s.links l.node (Some (request_of s a).first))) (joins g l nodes (some a)) u
     a3_spares u = join_spares s g i nodes (request_of s a).first (some a) l h.0 free batch_joins u (λ n m p. m.not_in_batch a (batch_of g a) there own_batch p)
 
     pub now_linked : Linked (joins g l nodes (some a)) a l.count.0
@@ -101,7 +100,7 @@ module _ (s : Shared) (g : Ghost) (i : Inv s g) (t : ℕ) (r : Row) (a : ℕ) (k
           from = stays g.ends _ _ (subst (At g.ends i.tail.step) (tail_there s g i nodes f (some a) l h.0 free batch_joins) i.tail.tail_ends);
         }
 
-  at_a3 : (l : Tail) → KnowsRun s g a (A3 l) → (v : Link) → (cell_at s.links l.node).link ≡ v
+  at_a3 : (l : Tail) → KnowsRun s g a (A3 l) → (v : Link) → link_at s.links l.node ≡ v
       → Fine s g t r (link_cas (memory_in s) l.node (request_of s a).first v) (if_none v (joins g l (batch_of g a).nodes (some a)) g)
       (running_at a k (after_a3 l (link_in (link_cas (memory_in s) l.node (request_of s a).first v).found) (request_of s a).first))
   at_a3 l h None e = record {
@@ -114,16 +113,16 @@ module _ (s : Shared) (g : Ghost) (i : Inv s g) (t : ℕ) (r : Row) (a : ℕ) (k
       (now_linked l h (ap led e), stays g.chain (batch_of g a).nodes _ h.0.is),
     );
   }
-  at_a3 l h (To x) e =
-      either_way (λ (y : RunStep). Fine s g t r (reads (memory_in s) (found.Link (To x))) g (running_at a k y)) (eqb x (request_of s a).first)
-      (λ q. runs_on (found.Link (To x)) (A4 l) (found_first s g i t r a there l x behind (eqb-true x _ q), h.0.is))
-      (λ q. runs_on (found.Link (To x)) (A8 l x) (h.0, behind, found_another s g i t r a there l x h behind (eqb-false x _ q)))
+  at_a3 l h (Some x) e =
+      either_way (λ (y : RunStep). Fine s g t r (reads (memory_in s) (found.Link (Some x))) g (running_at a k y)) (eqb x (request_of s a).first)
+      (λ q. runs_on (found.Link (Some x)) (A4 l) (found_first s g i t r a there l x behind (eqb-true x _ q), h.0.is))
+      (λ q. runs_on (found.Link (Some x)) (A8 l x) (h.0, behind, found_another s g i t r a there l x h behind (eqb-false x _ q)))
     where
       behind : At g.chain (suc l.count.0) x
       behind = found_behind s g i t r l.count.0 l.node x h.0.is e
 
   -- a5 goes over the whole batch
-  at_a5 : (o : Tail) → (announcement_at s.announcements a).old_tail ≡ Set o → (b : Bool) → same_tail s.tail o ≡ b
+  at_a5 : (o : Tail) → (announcement_at s.announcements a).old_tail ≡ Some o → (b : Bool) → same_tail s.tail o ≡ b
       → Fine s g t r (tail_cas (memory_in s) (past_batch s a o) b) g (running_at a k (walk_to (request_of s a) o))
   at_a5 o h true e = record {
     inv = over_batch_inv i a o there h true e;
@@ -174,7 +173,7 @@ module _ (s : Shared) (g : Ghost) (i : Inv s g) (t : ℕ) (r : Row) (a : ℕ) (k
   run_step (A2 l) h =
       let o = (announcement_at s.announcements a).old_tail in
       runs_on (found.OldTail o) (after_a2 l o) (after_a2_lem s g i t r a there l h o refl)
-  run_step (A3 l) h = at_a3 l h (cell_at s.links l.node).link refl
+  run_step (A3 l) h = at_a3 l h (link_at s.links l.node) refl
   run_step (A4 l) h = record {
     inv = set_old_tail_inv i a l there h.0 h.1;
     grows = set_old_tail_grows i a l there h.0 h.1;
@@ -187,7 +186,7 @@ module _ (s : Shared) (g : Ghost) (i : Inv s g) (t : ℕ) (r : Row) (a : ℕ) (k
   }
   run_step (A5 o) h = at_a5 o h (same_tail s.tail o) refl
   run_step (A6 rise x left) h =
-      let v = (cell_at s.links x).link in
+      let v = link_at s.links x in
       runs_on (found.Link v) (after_a6 rise x left v) (after_a6_lem s g i t r a there rise x left h v refl)
   run_step (A7 rise x) h = at_a7 rise x h (same_head s.head (Announced a)) refl
   run_step (A8 l x) h =

@@ -1,5 +1,6 @@
 -- What the threads share, as the proof reads it: head, tail, links and announcements, and how many nodes and announcements have been handed out.
 -- The machine takes numbers by their remainder; of numbers in range that is the number itself.
+use Rattle.std.specs.Prelude.{None, Some}
 use Prim.Native.Nat.{ℕ, ◌%◌, ◌<◌}
 use mathlib.Core.Path.{◌≡◌, refl, sym, ap, ◌∙◌}
 use mathlib.Core.Bool.{Bool, cond}
@@ -12,18 +13,16 @@ use lib.ListN.{length, set}
 use lib.Seq.{get_or-set_same, get_or-set_other}
 use Rattle.cells.specs.declared.Tail.{Tail}
 use Rattle.cells.specs.declared.Head.{Head}
-use Rattle.cells.specs.declared.Cell.{Cell}
-use Rattle.cells.specs.declared.Link.{Link}
-use Rattle.cells.specs.declared.Link.TheVariants.{None, To}
+use Rattle.cells.specs.Links.{Link}
 use Rattle.cells.specs.declared.Announcement.{Announcement}
-use Rattle.memory.specs.Memory.{Memory, announcement_at, no_cell, no_announcement}
+use Rattle.memory.specs.Memory.{Memory, announcement_at, no_announcement}
 use Rattle.machine.specs.declared.Machine.{Machine}
 pub use Rattle.order.specs.Links.{led, next}
 
 pub record Shared : Type 0 where
   pub head : Head
   pub tail : Tail
-  pub links : List Cell
+  pub links : List Link
   pub announcements : List Announcement
   -- how many nodes and announcements have been handed out
   pub nodes : ℕ
@@ -57,7 +56,7 @@ with_head s h = record { head = h; tail = s.tail; links = s.links; announcements
 abbrev pub with_tail : Shared → Tail → Shared
 with_tail s t = record { head = s.head; tail = t; links = s.links; announcements = s.announcements; nodes = s.nodes; announced = s.announced }
 
-abbrev pub with_links : Shared → List Cell → Shared
+abbrev pub with_links : Shared → List Link → Shared
 with_links s ls = record { head = s.head; tail = s.tail; links = ls; announcements = s.announcements; nodes = s.nodes; announced = s.announced }
 
 abbrev pub with_announcements : Shared → List Announcement → Shared
@@ -72,24 +71,24 @@ head_if b s h = cond b (with_head s h) s
 
 pub no_link : (l : Link) → led l ≡ none → l ≡ None
 no_link None e = refl
-no_link (To x) e = absurd (let z : ◌≡◌ {A = ℕ} 0 1 = cc in omega arith)
+no_link (Some x) e = absurd (let z : ◌≡◌ {A = ℕ} 0 1 = cc in omega arith)
 
-pub link_to : (l : Link) (x : ℕ) → led l ≡ some x → l ≡ To x
+pub link_to : (l : Link) (x : ℕ) → led l ≡ some x → l ≡ Some x
 link_to None x e = absurd (let z : ◌≡◌ {A = ℕ} 0 1 = cc in omega arith)
-link_to (To y) x e = let q : y ≡ x = cc in ap To q
+link_to (Some y) x e = let q : y ≡ x = cc in ap Some q
 
-abbrev pub linked : List Cell → ℕ → Link → List Cell
-linked links n l = set links (n % 512) (record { link = l })
+abbrev pub linked : List Link → ℕ → Link → List Link
+linked links n l = set links (n % 512) l
 
 -- a link that is set is found, and the others stay
-module _ (links : List Cell) (all : length links ≡ 512) (n : ℕ) (l : Link) (small : n < 512) where
+module _ (links : List Link) (all : length links ≡ 512) (n : ℕ) (l : Link) (small : n < 512) where
   pub next_of_linked : next (linked links n l) n ≡ led l
-  next_of_linked = ap (λ (c : Cell). led c.link) (get_or-set_same links (n % 512) (record { link = l }) no_cell (omega (arith, mod-eq_of_lt small)))
+  next_of_linked = ap led (get_or-set_same links (n % 512) l None (omega (arith, mod-eq_of_lt small)))
 
   pub next_of_others : (k : ℕ) → k < 512 → k ≢ n → next (linked links n l) k ≡ next links k
   next_of_others k h ne =
-      ap (λ (c : Cell). led c.link)
-      (get_or-set_other links (n % 512) (k % 512) (record { link = l }) no_cell (λ e. ne (sym (mod-eq_of_lt h) ∙ e ∙ mod-eq_of_lt small)))
+      ap led
+      (get_or-set_other links (n % 512) (k % 512) l None (λ e. ne (sym (mod-eq_of_lt h) ∙ e ∙ mod-eq_of_lt small)))
 
 -- the same of announcements
 abbrev pub announcing : List Announcement → ℕ → Announcement → List Announcement

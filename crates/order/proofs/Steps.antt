@@ -1,4 +1,5 @@
 -- Every step of every thread keeps the invariant of the machine and its ghost.
+use Rattle.std.specs.Prelude.{None, Some}
 use Prim.Native.Nat.{ℕ, ◌<◌, ◌≤◌}
 use mathlib.Core.Path.{◌≡◌, refl, sym, ap, ◌∙◌, subst}
 use mathlib.Core.List.{List, [], ◌∷◌}
@@ -14,12 +15,11 @@ use Rattle.tally.specs.declared.Tally.{Tally}
 use Rattle.refusal.proofs.Tests.{either_way}
 use Rattle.cells.specs.declared.Head.TheVariants.{Plain}
 use Rattle.cells.specs.declared.Tail.{Tail}
-use Rattle.cells.specs.declared.Link.{Link}
-use Rattle.cells.specs.declared.Link.TheVariants.{None, To}
+use Rattle.cells.specs.Links.{Link}
 use Rattle.cells.specs.declared.Request.{Request}
 use Rattle.found.specs.declared.Found.TheVariants as found
 use Rattle.cells.specs.Ends.{same_head}
-use Rattle.memory.specs.Memory.{Memory, perform, cell_at, no_announcement}
+use Rattle.memory.specs.Memory.{Memory, perform, link_at, no_announcement}
 use Rattle.place.specs.declared.Place.{Place}
 use Rattle.place.specs.declared.Place.TheVariants.{Idle, Enqueue, Dequeue, Batch, Dequeues, Running}
 use Rattle.place.specs.declared.Resume.{Resume}
@@ -75,12 +75,12 @@ module _ (s : Shared) (g : Ghost) (i : Inv s g) (t : ℕ) (r : Row) where
 module _ {A : Type 0} (f : Ghost → A) (m : Memory) (g : Ghost) (joined : (l : Tail) (nodes : List ℕ) (who : Option ℕ) → f (joins g l nodes who) ≡ f g) (installed : (b : ℕ) → f (installs g b) ≡ f g) where
   if_taken : (v : Link) (l : Tail) (nodes : List ℕ) (who : Option ℕ) → f (if_none v (joins g l nodes who) g) ≡ f g
   if_taken None l nodes who = joined l nodes who
-  if_taken (To n) l nodes who = refl
+  if_taken (Some n) l nodes who = refl
 
   no_step_changes : (p : Place) → f (step_ghost m g p) ≡ f g
   no_step_changes Idle = refl
   no_step_changes (Enqueue n E1) = refl
-  no_step_changes (Enqueue n (E2 l)) = if_taken (cell_at m.links l.node).link l (n ∷ []) none
+  no_step_changes (Enqueue n (E2 l)) = if_taken (link_at m.links l.node) l (n ∷ []) none
   no_step_changes (Enqueue n (E3 l)) = refl
   no_step_changes (Enqueue n (E4 l x)) = refl
   no_step_changes (Enqueue n (E5 l x)) = refl
@@ -90,7 +90,7 @@ module _ {A : Type 0} (f : Ghost → A) (m : Memory) (g : Ghost) (joined : (l : 
   no_step_changes (Dequeues x) = refl
   no_step_changes (Running a A1 k) = refl
   no_step_changes (Running a (A2 l) k) = refl
-  no_step_changes (Running a (A3 l) k) = if_taken (cell_at m.links l.node).link l (batch_of g a).nodes (some a)
+  no_step_changes (Running a (A3 l) k) = if_taken (link_at m.links l.node) l (batch_of g a).nodes (some a)
   no_step_changes (Running a (A4 l) k) = refl
   no_step_changes (Running a (A5 o) k) = refl
   no_step_changes (Running a (A6 s x left) k) = refl

@@ -1,5 +1,6 @@
 -- Steps that move the tail, or leave all that is shared as it was. The tail goes over one link step at a time: e3, e5 and a8 take it over a
 -- single enqueue, a5 over a batch, and only when that batch's old tail is set. A CAS that is not taken changes nothing.
+use Rattle.std.specs.Prelude.{None, Some}
 use Prim.Native.Nat.{ℕ, suc, ◌+◌, ◌<◌, ◌≤◌}
 use mathlib.Core.Path.{◌≡◌, refl, sym, ap, ◌∙◌, subst}
 use mathlib.Core.Bool.{Bool, true, false, false≢true}
@@ -11,7 +12,6 @@ use Rattle.chain.specs.Positions.{At, In}
 use Rattle.chain.proofs.Positions.{none_is_not_some, some_injective, one_element, within}
 use Rattle.refusal.proofs.Tests.{either_way}
 use Rattle.cells.specs.declared.Tail.{Tail}
-use Rattle.cells.specs.declared.OldTail.TheVariants.{Unset, Set}
 use Rattle.memory.specs.Memory.{announcement_at}
 use Rattle.cells.specs.Ends.{same_tail, past_tail, up}
 use Rattle.order.proofs.Ghost.{Ghost}
@@ -57,7 +57,7 @@ module _ {s : Shared} {g : Ghost} (i : Inv s g) where
   -- the tail goes over link step j + 1; if that was a batch, then its old tail is set
   tail_moved :
       (x : Tail) (j : ℕ) → At g.ends j s.tail.count.0 → At g.ends (suc j) x.count.0 → TailAt g x
-      → ((a : ℕ) → At g.by (suc j) (some a) → (announcement_at s.announcements a).old_tail ≡ Unset → ⊥)
+      → ((a : ℕ) → At g.by (suc j) (some a) → (announcement_at s.announcements a).old_tail ≡ None → ⊥)
       → Inv (with_tail s x) g
   tail_moved x j from to is licence = record {
     chain = i.chain;
@@ -76,7 +76,7 @@ module _ {s : Shared} {g : Ghost} (i : Inv s g) where
       higher : s.tail.count.0 < x.count.0
       higher = i.ends.rising j (suc j) _ _ from to (omega arith)
 
-      over : (a k p : ℕ) → At g.by (suc k) (some a) → At g.ends k p → (announcement_at s.announcements a).old_tail ≡ Unset → j ≤ k → x.count.0 ≤ p
+      over : (a k p : ℕ) → At g.by (suc k) (some a) → At g.ends k p → (announcement_at s.announcements a).old_tail ≡ None → j ≤ k → x.count.0 ≤ p
       over a k p b f n h =
           elim (ℕ_discrete j k) [
             | yes e ↦ absurd (licence a (rw e b) n)
@@ -126,7 +126,7 @@ module _ {s : Shared} {g : Ghost} (i : Inv s g) where
       omega (arith, within h.0.nodes 0 k.first_is, k.many)
 
   -- a5: the tail goes over the batch of announcement a, from its old tail
-  module _ (a : ℕ) (o : Tail) (there : In g.installed a) (is_set : (announcement_at s.announcements a).old_tail ≡ Set o) (b : Bool)
+  module _ (a : ℕ) (o : Tail) (there : In g.installed a) (is_set : (announcement_at s.announcements a).old_tail ≡ Some o) (b : Bool)
       (same : same_tail s.tail o ≡ b) where
     old_tail_lem : Linked g a o.count.0 × TailAt g o
     old_tail_lem = i.linked.old_tails a o is_set there
@@ -144,7 +144,7 @@ module _ {s : Shared} {g : Ghost} (i : Inv s g) where
         (subst (λ (y : Tail). At g.ends old_tail_lem.0.step y.count.0) (sym e) old_tail_lem.0.from)
         (rw up_to_last shape.ends_at) (rw up_to_last shape.last_at) (λ c m n. only_a c (some_injective (some_injective (sym m ∙ old_tail_lem.0.is))) n)
       where
-        only_a : (c : ℕ) → c ≡ a → (announcement_at s.announcements c).old_tail ≡ Unset → ⊥
+        only_a : (c : ℕ) → c ≡ a → (announcement_at s.announcements c).old_tail ≡ None → ⊥
         only_a c e n = let z : ◌≡◌ {A = ℕ} 0 1 = cc in omega arith
 
     pub over_batch_grows : Grows s g (tail_if b s (past_batch s a o)) g

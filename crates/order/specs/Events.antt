@@ -1,26 +1,25 @@
 -- What entries do to the machine, one thing after the other. Each step is an event, by Step or by Run; each accepted entry of another kind is
 -- one, and an Enqueue or a Dequeue with pending calls is two: it is deferred, then the batch is set off. A refused entry is none. The theorem
 -- `events_lead_there` (proofs/Reached.antt) has it that the events of a list of entries leave the machine as the entries do.
-use Rattle.std.specs.Prelude.{ℕ, zero, suc, ◌%◌, cond, List, [], ◌∷◌, ◌++◌, eqb}
+use Rattle.std.specs.Prelude.{ℕ, zero, suc, ◌%◌, cond, List, [], ◌∷◌, ◌++◌, eqb, None, Some}
 use Rattle.place.specs.declared.Place.TheVariants as place
 use Rattle.place.specs.declared.EnqueueStep.TheVariants.{E1}
 use Rattle.place.specs.declared.DequeueStep.TheVariants.{D1}
 use Rattle.row.specs.Row.{placed}
 use Rattle.answer.specs.declared.Future.{Future}
-use Rattle.answer.specs.declared.Outcome.{Outcome}
-use Rattle.answer.specs.declared.Outcome.TheVariants as outcome
+use Rattle.answer.specs.Answer.{Outcome}
 use Rattle.entry.specs.declared.Entry.{Entry}
 use Rattle.entry.specs.declared.Entry.TheVariants as entry
 use Rattle.needs.specs.declared.Needs.{Needs}
 use Rattle.next.specs.Next.{next_node, next_future}
 use Rattle.needs.specs.Needs.{lacking, enqueue_needs, dequeue_needs, future_enqueue_needs, future_dequeue_needs, evaluate_needs}
 use Rattle.refuse.specs.Refusals.{callable, steppable, foreign, call_verdict}
-use Rattle.answer.specs.Verdicts.{where_accepted}
 use Rattle.machine.specs.declared.Machine.{Machine}
 use Rattle.machine.specs.State.{row_at, with_row, future_at}
 use Rattle.machine.specs.HandOut.{hand_out_node}
 use Rattle.machine.specs.Steps.{step_of, is_more}
 use Rattle.machine.specs.Entries.{defer_enqueue, defer_dequeue, set_off, apply}
+use Rattle.refusal.specs.Verdicts.{where_accepted}
 
 -- with the thread that does it, and an item or a future
 pub data Event : Type 0 where
@@ -70,11 +69,9 @@ dequeue_events m i =
 
 -- Evaluate of an own future: its result where it is done, else its batch
 abbrev pub evaluate_own_events : Machine → ℕ → ℕ → Outcome → List Event
-evaluate_own_events m i f outcome.Waiting =
+evaluate_own_events m i f None =
     where_accepted (lacking (evaluate_needs (row_at m i)) m.used m.nodes (row_at m i).count) (BatchSetOff i f ∷ []) []
-evaluate_own_events m i f outcome.Ok = FutureAsked i f ∷ []
-evaluate_own_events m i f (outcome.Item v) = FutureAsked i f ∷ []
-evaluate_own_events m i f outcome.Empty = FutureAsked i f ∷ []
+evaluate_own_events m i f (Some result) = FutureAsked i f ∷ []
 
 abbrev pub evaluate_events : Machine → ℕ → ℕ → Future → List Event
 evaluate_events m t f x = cond (foreign f x.owner m.used.futures t) [] (evaluate_own_events m (t % 8) (f % 512) x.outcome)

@@ -1,11 +1,11 @@
 -- The order of effect: 01, "Contents and order of effect", over the events (Events.antt). PlainQueue.antt has what is promised of it.
-use Rattle.std.specs.Prelude.{ℕ, suc, Bool, cond, List, [], ◌∷◌, ◌++◌, map, eqb, ltb, get_or, set, replicate}
+use Rattle.std.specs.Prelude.{ℕ, suc, Bool, cond, List, [], ◌∷◌, ◌++◌, map, eqb, ltb, get_or, set, replicate, Ok, Err}
 use Rattle.std.proofs.Math.Option.{Option, none, some}
 use Rattle.tally.specs.Fifo.{Call, enqueue, dequeue, Result, ok, item, empty, left}
 use Rattle.tally.specs.Excess.{enqueues}
 use Rattle.cells.specs.declared.Head.TheVariants.{Plain}
 use Rattle.cells.specs.Ends.{same_head}
-use Rattle.memory.specs.Memory.{Memory, cell_at}
+use Rattle.memory.specs.Memory.{Memory, link_at}
 use Rattle.place.specs.declared.Place.{Place}
 use Rattle.place.specs.declared.Place.TheVariants.{Idle, Enqueue, Dequeue, Batch, Dequeues, Running}
 use Rattle.place.specs.declared.EnqueueStep.{EnqueueStep}
@@ -16,10 +16,10 @@ use Rattle.place.specs.declared.DequeuesStep.{DequeuesStep}
 use Rattle.place.specs.declared.DequeuesStep.TheVariants.{Q1, Q2, Q3}
 use Rattle.place.specs.declared.RunStep.{RunStep}
 use Rattle.place.specs.declared.RunStep.TheVariants.{A1, A2, A3, A4, A5, A6, A7, A8}
-use Rattle.answer.specs.declared.Answer.{Answer}
+use Rattle.answer.specs.declared.CallResult.TheVariants as call_result
 use Rattle.answer.specs.declared.Answer.TheVariants as answer
 use Rattle.entry.specs.declared.Entry.{Entry}
-use Rattle.answer.specs.Answer.{answered}
+use Rattle.answer.specs.Answer.{AnswerOrRefusal, answered}
 use Rattle.next.specs.Next.{next_future}
 use Rattle.machine.specs.declared.Machine.{Machine}
 use Rattle.machine.specs.State.{row_at, memory_of, future_at}
@@ -91,7 +91,7 @@ now_last s i = s.order ++ (record { call = (of s i).called; place = s.clock } �
 -- enqueue: when e2 is taken
 abbrev pub enqueue_order : Memory → Story → ℕ → EnqueueStep → List Effect
 enqueue_order m s i E1 = s.order
-enqueue_order m s i (E2 t) = if_none (cell_at m.links t.node).link (now_last s i) s.order
+enqueue_order m s i (E2 t) = if_none (link_at m.links t.node) (now_last s i) s.order
 enqueue_order m s i (E3 t) = s.order
 enqueue_order m s i (E4 t x) = s.order
 enqueue_order m s i (E5 t x) = s.order
@@ -99,7 +99,7 @@ enqueue_order m s i (E5 t x) = s.order
 -- dequeue: when d3 is taken, or at the d2 that finds none
 abbrev pub dequeue_order : Memory → Story → ℕ → DequeueStep → List Effect
 dequeue_order m s i D1 = s.order
-dequeue_order m s i (D2 f) = if_none (cell_at m.links f.node).link (now_last s i) s.order
+dequeue_order m s i (D2 f) = if_none (link_at m.links f.node) (now_last s i) s.order
 dequeue_order m s i (D3 f x) = cond (same_head m.ends.head (Plain f)) (now_last s i) s.order
 
 -- batch of dequeues only: once it has passed q3, or found nothing, at the place of its last q2 read
@@ -108,7 +108,7 @@ put_in_at s i time = put_in (record { call = (of s i).called; place = time }) s.
 
 abbrev pub dequeues_order : Memory → Story → ℕ → DequeuesStep → List Effect
 dequeues_order m s i Q1 = s.order
-dequeues_order m s i (Q2 w) = if_none (cell_at m.links w.at).link (cond (eqb w.taken 0) (put_in_at s i s.clock) s.order) s.order
+dequeues_order m s i (Q2 w) = if_none (link_at m.links w.at) (cond (eqb w.taken 0) (put_in_at s i s.clock) s.order) s.order
 dequeues_order m s i (Q3 w) = cond (same_head m.ends.head (Plain w.front)) (put_in_at s i (of s i).last_read) s.order
 
 -- batch with an enqueue: when a3 is taken, by any thread
@@ -116,7 +116,7 @@ abbrev pub run_order : Memory → Story → ℕ → RunStep → List Effect
 run_order m s a A1 = s.order
 run_order m s a (A2 t) = s.order
 run_order m s a (A3 t) =
-    if_none (cell_at m.links t.node).link (s.order ++ (record { call = get_or s.announced a no_called; place = s.clock } ∷ [])) s.order
+    if_none (link_at m.links t.node) (s.order ++ (record { call = get_or s.announced a no_called; place = s.clock } ∷ [])) s.order
 run_order m s a (A4 t) = s.order
 run_order m s a (A5 o) = s.order
 run_order m s a (A6 rise x left) = s.order
@@ -148,16 +148,16 @@ last_read_at now before (Dequeues x) = read_at now before x
 last_read_at now before (Running a x k) = before
 
 -- the result in an answer, where it is one
-abbrev pub results_in : Answer → List (Result ℕ)
-results_in answer.Ok = ok ∷ []
-results_in (answer.Item v) = item v.value ∷ []
-results_in answer.Empty = empty ∷ []
-results_in answer.More = []
-results_in answer.Started = []
-results_in (answer.Future f) = []
-results_in (answer.Refused r) = []
+abbrev pub results_in : AnswerOrRefusal → List (Result ℕ)
+results_in (Ok (answer.Ended call_result.Ok)) = ok ∷ []
+results_in (Ok (answer.Ended (call_result.Item v))) = item v.value ∷ []
+results_in (Ok (answer.Ended call_result.Empty)) = empty ∷ []
+results_in (Ok answer.More) = []
+results_in (Ok answer.Started) = []
+results_in (Ok (answer.Future f)) = []
+results_in (Err r) = []
 
-abbrev pub gives : ℕ → Option ℕ → Option ℕ → ℕ → Answer → List Given
+abbrev pub gives : ℕ → Option ℕ → Option ℕ → ℕ → AnswerOrRefusal → List Given
 gives i f began now a = map (λ r. record { thread = i; future = f; began = began; result = r; time = now }) (results_in a)
 
 -- with another call begun; with one more call pending; after a step, where nothing is pending once a call has ended
@@ -221,7 +221,7 @@ abbrev pub asks : Machine → Story → ℕ → ℕ → Story
 asks m s i f = record {
   clock = suc s.clock;
   order = s.order;
-  given = s.given ++ gives i (some f) none s.clock (answered (future_at m f).outcome);
+  given = s.given ++ gives i (some f) none s.clock (Ok (answered (future_at m f).outcome));
   threads = s.threads;
   started = s.started;
   announced = s.announced;

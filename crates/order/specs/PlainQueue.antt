@@ -1,11 +1,10 @@
 -- Demand 3, second half: what is promised of the order of effect after any list of entries from a fresh machine: "The calls that took effect, in 01's
 -- order, run singly on a plain FIFO list, give the present contents and every result given so far, each between its start and its result, a batch's
 -- calls together." Order.antt has the order. A batch's calls are one row of it, so they stand together, in calling order.
-use Rattle.std.specs.Prelude.{ℕ, ◌%◌, ◌<◌, ◌≤◌, ◌≡◌, List, [], ◌∷◌, ◌++◌, map}
+use Rattle.std.specs.Prelude.{ℕ, ◌%◌, ◌<◌, ◌≤◌, ◌≡◌, List, [], ◌∷◌, ◌++◌, map, None}
 use Rattle.std.proofs.Math.Option.{Option, none, some}
 use Rattle.chain.specs.Positions.{At, In}
 use Rattle.tally.specs.Fifo.{Result, left, results}
-use Rattle.answer.specs.declared.Outcome.TheVariants.{Waiting}
 use Rattle.entry.specs.declared.Entry.{Entry}
 use Rattle.entry.specs.Operands.{thread_of}
 use Rattle.machine.specs.declared.Machine.{Machine}
@@ -53,7 +52,7 @@ pub record AsAPlainQueue (m : Machine) (s : Story) : Type 0 where
   pub done : (f : ℕ) (r : Result ℕ) → f < m.used.futures → (future_at m f).outcome ≡ outcome_of r
       → Stands s.order (record { thread = (future_at m f).owner; future = some f; began = none; result = r; time = s.clock })
   -- a future that is not done is one of its thread's pending calls: the end of a batch leaves none waiting
-  pub waiting : (f : ℕ) → f < m.used.futures → (future_at m f).outcome ≡ Waiting → In (of s (future_at m f).owner).futures f
+  pub waiting : (f : ℕ) → f < m.used.futures → (future_at m f).outcome ≡ None → In (of s (future_at m f).owner).futures f
   -- only calls that were started stand there, each no earlier than it began; times rise along the order. So a call whose result was given before another
   -- began stands before it (`stands_before`, proofs/Ordered.antt).
   pub started : (j : ℕ) (x : Effect) → At s.order j x → In s.started x.call

@@ -1,17 +1,15 @@
 -- Demand 3, first half: what is promised of the queue after any list of entries from a fresh machine (a refused entry changes nothing):
 -- "the linked nodes form one chain from the first dummy, no loop, each node once; the tail is at the last node or one link step behind;
 -- no walk runs off the end." proofs/Promises.antt has the theorem, the_queue_is_a_queue.
-use Rattle.std.specs.Prelude.{ℕ, suc, ◌<◌, ◌≤◌, ◌≡◌, true, List, [], ◌∷◌, ◌++◌, ◌⊎◌, length}
+use Rattle.std.specs.Prelude.{ℕ, suc, ◌<◌, ◌≤◌, ◌≡◌, true, List, [], ◌∷◌, ◌++◌, ◌⊎◌, length, None, Some}
 use Rattle.std.proofs.Math.Option.{some}
 use Rattle.chain.specs.Positions.{At, In, Once}
 use Rattle.chain.specs.Chain.{following}
-use Rattle.cells.specs.declared.Cell.{Cell}
+use Rattle.cells.specs.Links.{Link}
 use Rattle.cells.specs.declared.Tail.{Tail}
 use Rattle.cells.specs.declared.Head.TheVariants.{Announced}
-use Rattle.cells.specs.declared.Link.TheVariants.{None, To}
-use Rattle.cells.specs.declared.OldTail.TheVariants.{Set}
 use Rattle.cells.specs.declared.Request.{Request}
-use Rattle.memory.specs.Memory.{Memory, cell_at, announcement_at}
+use Rattle.memory.specs.Memory.{Memory, link_at, announcement_at}
 use Rattle.place.specs.declared.Place.{Place}
 use Rattle.place.specs.declared.Place.TheVariants.{Idle, Enqueue, Dequeue, Batch, Dequeues, Running}
 use Rattle.place.specs.declared.Resume.{Resume}
@@ -39,7 +37,7 @@ batch_nodes m k = nodes_from m.links k.first k.tally.enqueues
 
 abbrev pub enqueue_links : Memory → ℕ → EnqueueStep → List (List ℕ)
 enqueue_links m n E1 = []
-enqueue_links m n (E2 t) = if_none (cell_at m.links t.node).link ((n ∷ []) ∷ []) []
+enqueue_links m n (E2 t) = if_none (link_at m.links t.node) ((n ∷ []) ∷ []) []
 enqueue_links m n (E3 t) = []
 enqueue_links m n (E4 t x) = []
 enqueue_links m n (E5 t x) = []
@@ -47,7 +45,7 @@ enqueue_links m n (E5 t x) = []
 abbrev pub run_links : Memory → ℕ → RunStep → List (List ℕ)
 run_links m a A1 = []
 run_links m a (A2 t) = []
-run_links m a (A3 t) = if_none (cell_at m.links t.node).link (batch_nodes m (announcement_at m.announcements a).request ∷ []) []
+run_links m a (A3 t) = if_none (link_at m.links t.node) (batch_nodes m (announcement_at m.announcements a).request ∷ []) []
 run_links m a (A4 t) = []
 run_links m a (A5 o) = []
 run_links m a (A6 rise x left) = []
@@ -96,7 +94,7 @@ pub record OneChain (m : Machine) (steps : List (List ℕ)) : Type 0 where
   pub visited : (n : ℕ) → length (linked steps) ≤ n → following (next m.links) n (some 0) ≡ linked steps
   pub once : Once (linked steps)
   pub handed_out : (k n : ℕ) → At (linked steps) k n → n < m.used.nodes
-  pub last_link : (k n : ℕ) → At (linked steps) k n → length (linked steps) ≡ suc k → (cell_at m.links n).link ≡ None
+  pub last_link : (k n : ℕ) → At (linked steps) k n → length (linked steps) ≡ suc k → link_at m.links n ≡ None
 
 -- n is the last of a list
 abbrev pub LastOf : List ℕ → ℕ → Type 0
@@ -126,7 +124,7 @@ RunReadsOn m c (A2 t) = Unit {0}
 RunReadsOn m c (A3 t) = Unit {0}
 RunReadsOn m c (A4 t) = Unit {0}
 RunReadsOn m c (A5 o) = Unit {0}
-RunReadsOn m c (A6 rise x left) = In c x × ((y : ℕ) × ((cell_at m.links x).link ≡ To y))
+RunReadsOn m c (A6 rise x left) = In c x × ((y : ℕ) × (link_at m.links x ≡ Some y))
 RunReadsOn m c (A7 rise x) = Unit {0}
 RunReadsOn m c (A8 t x) = Unit {0}
 
@@ -144,13 +142,13 @@ ReadsOn m c (Dequeues x) = DequeuesReadOn c x
 ReadsOn m c (Running a x k) = RunReadsOn m c x
 
 -- every link that a walk reads leads on
-abbrev pub EveryLinkLeadsOn : List Cell → RunStep → Type 0
+abbrev pub EveryLinkLeadsOn : List Link → RunStep → Type 0
 EveryLinkLeadsOn links A1 = Unit {0}
 EveryLinkLeadsOn links (A2 t) = Unit {0}
 EveryLinkLeadsOn links (A3 t) = Unit {0}
 EveryLinkLeadsOn links (A4 t) = Unit {0}
 EveryLinkLeadsOn links (A5 o) = Unit {0}
-EveryLinkLeadsOn links (A6 s x left) = (n : ℕ) → n < left → (y : ℕ) × ((cell_at links (walked links x n)).link ≡ To y)
+EveryLinkLeadsOn links (A6 s x left) = (n : ℕ) → n < left → (y : ℕ) × (link_at links (walked links x n) ≡ Some y)
 EveryLinkLeadsOn links (A7 s x) = Unit {0}
 EveryLinkLeadsOn links (A8 t x) = Unit {0}
 
@@ -161,15 +159,15 @@ pub record WalksStayOn (m : Machine) (steps : List (List ℕ)) : Type 0 where
   pub reads : (t : ℕ) → t < 8 → ReadsOn m (linked steps) (row_at m t).place
   pub pairing : (t : ℕ) → t < 8
       → AllStayOn (hop m t).machine.links (linked (steps ++ step_links (memory_of m) (row_at m t).place)) (turns_after (hop m t).machine t (hop m t).after)
-  pub head_walk : (a : ℕ) (o : Tail) → m.ends.head ≡ Announced a → (announcement_at m.announcements a).old_tail ≡ Set o → EveryLinkLeadsOn m.links (walk_to (request_in m a) o)
-  pub head_walk_from_tail : (a : ℕ) → m.ends.head ≡ Announced a → leads_to (cell_at m.links m.ends.tail.node).link (request_in m a).first ≡ true
+  pub head_walk : (a : ℕ) (o : Tail) → m.ends.head ≡ Announced a → (announcement_at m.announcements a).old_tail ≡ Some o → EveryLinkLeadsOn m.links (walk_to (request_in m a) o)
+  pub head_walk_from_tail : (a : ℕ) → m.ends.head ≡ Announced a → leads_to (link_at m.links m.ends.tail.node) (request_in m a).first ≡ true
       → EveryLinkLeadsOn m.links (walk_to (request_in m a) m.ends.tail)
   pub contents : (j n : ℕ) → At (chain_after 512 m.links (abstract_head m)) j n → In (linked steps) n
   pub not_cut : length (chain_after 512 m.links (abstract_head m)) < 512
 
 -- One a3 links all nodes of its batch: as many as it has enqueues.
 abbrev pub BatchesWhole : Machine → Type 0
-BatchesWhole m = (t a : ℕ) (l : Tail) (k : Resume) → t < 8 → (row_at m t).place ≡ Running a (A3 l) k → (cell_at m.links l.node).link ≡ None
+BatchesWhole m = (t a : ℕ) (l : Tail) (k : Resume) → t < 8 → (row_at m t).place ≡ Running a (A3 l) k → link_at m.links l.node ≡ None
     → length (batch_nodes (memory_of m) (request_in m a)) ≡ (request_in m a).tally.enqueues
 
 -- No remainder, wrap or cut-off subtraction that makes the code total is ever met: Fits.antt.

@@ -2,16 +2,16 @@
 #![tactic(auto)]
 
 ghost use Rattle.std.specs.Prelude.{◌≡◌};
-ghost use Rattle.pairing.specs.Pairing.{node_behind, same_link, next_of, pay, pay_batch, pay_dequeues};
+ghost use Rattle.pairing.specs.Pairing.{node_behind, next_of, pay, pay_batch, pay_dequeues};
 
-use answer::{Item, Outcome};
-use cells::Link;
+use answer::{CallResult, Item, Operation};
 
 // What the listings keep beside the current head: listing 6 the node of the next enqueue and whether no
-// dequeue can succeed any more, listing 8 how many are still to succeed.
+// dequeue can succeed any more, listing 8 how many are still to succeed. The first two are variables of the listing, each
+// with any value of the other.
 #[derive(Clone, Copy)]
 pub enum Supply {
-    Batch { next: Link, none_left: bool },
+    Batch { next: Option<u16>, none_left: bool },
     Dequeues { left: u32 },
 }
 
@@ -25,7 +25,7 @@ pub struct Cursor {
 // The result of one call, and the cursor behind it.
 #[derive(Clone, Copy)]
 pub struct Paid {
-    pub outcome: Outcome,
+    pub result: CallResult,
     pub cursor: Cursor,
 }
 
@@ -33,91 +33,71 @@ pub struct Paid {
 // item, the link behind the next enqueue's node, and the batch's last node.
 #[derive(Clone, Copy)]
 pub struct Around {
-    pub behind: Link,
+    pub behind: Option<u16>,
     pub node: u16,
     pub item: Item,
-    pub behind_next: Link,
+    pub behind_next: Option<u16>,
     pub last: u16,
 }
 
-// The node that a link leads to; where there is none, `at`, which no reachable machine comes to.
-pub fn node_behind(link: Link, at: u16) -> u16
+// The node that a link leads to; where there is none, `at`, as the definition says, which no reachable machine comes to.
+pub fn node_behind(link: Option<u16>, at: u16) -> u16
     ensures { result ≡ node_behind link at }
 {
-    match link {
-        Link::None => at,
-        Link::To(node) => node,
-    }
-}
-
-fn same_link(a: Link, b: Link) -> bool
-    ensures { result ≡ same_link a b }
-{
-    match a {
-        Link::None => match b {
-            Link::None => true,
-            Link::To(_) => false,
-        },
-        Link::To(x) => match b {
-            Link::None => false,
-            Link::To(y) => x == y,
-        },
-    }
+    link.unwrap_or(at)
 }
 
 impl Cursor {
-    // The node of the next enqueue, 0 where there is none.
+    // The node of the next enqueue; 0 where there is none, as the contract says.
     pub fn next_node(self) -> u16
         ensures { result ≡ next_of self.supply }
     {
-        let supply = self.supply;
-        match supply {
-            Supply::Batch { next, none_left: _ } => node_behind(next, 0),
-            Supply::Dequeues { left: _ } => 0,
+        match self.supply {
+            Supply::Batch { next, .. } => node_behind(next, 0),
+            Supply::Dequeues { .. } => 0,
         }
     }
 
-    // The result of a pending call that is an enqueue or not.
-    pub fn pay(self, enqueue: bool, around: Around) -> Paid
-        ensures { result ≡ pay self.at self.supply enqueue around }
+    // The result of a pending enqueue or dequeue.
+    pub fn pay(self, operation: Operation, around: Around) -> Paid
+        ensures { result ≡ pay self.at self.supply operation around }
     {
-        let supply = self.supply;
-        match supply {
+        match self.supply {
             Supply::Batch { next, none_left } => pay_batch(
-                self.at, next, none_left, enqueue, around,
+                self.at, next, none_left, operation, around,
             ),
             Supply::Dequeues { left } => pay_dequeues(self.at, left, around),
         }
     }
 }
 
-// Listing 6, lines 79 to 90.
-fn pay_batch(at: u16, next: Link, none_left: bool, enqueue: bool, around: Around) -> Paid
-    ensures { result ≡ pay_batch at next none_left enqueue around }
+// Listing 6, lines 79 to 90, with its two variables side by side, as the definition `pay_batch` takes them.
+fn pay_batch(
+    at: u16,
+    next: Option<u16>,
+    none_left: bool,
+    operation: Operation,
+    around: Around,
+) -> Paid
+    ensures { result ≡ pay_batch at next none_left operation around }
 {
-    let behind = around.behind;
-    let behind_next = around.behind_next;
-    if enqueue {
+    if operation == Operation::Enqueue {
         return Paid {
-            outcome: Outcome::Ok,
+            result: CallResult::Ok,
             cursor: Cursor {
                 at,
                 supply: Supply::Batch {
-                    next: behind_next,
+                    next: around.behind_next,
                     none_left,
                 },
             },
         };
     }
-    if none_left {
+    if none_left || around.behind == next {
         return nothing(at, Supply::Batch { next, none_left });
     }
-    if same_link(behind, next) {
-        return nothing(at, Supply::Batch { next, none_left });
-    }
-    let item = around.item;
     Paid {
-        outcome: Outcome::Item(item),
+        result: CallResult::Item(around.item),
         cursor: Cursor {
             at: around.node,
             supply: Supply::Batch {
@@ -135,9 +115,8 @@ fn pay_dequeues(at: u16, left: u32, around: Around) -> Paid
     if left == 0 {
         return nothing(at, Supply::Dequeues { left });
     }
-    let item = around.item;
     Paid {
-        outcome: Outcome::Item(item),
+        result: CallResult::Item(around.item),
         cursor: Cursor {
             at: around.node,
             supply: Supply::Dequeues { left: left - 1 },
@@ -147,10 +126,10 @@ fn pay_dequeues(at: u16, left: u32, around: Around) -> Paid
 
 // A dequeue that found nothing.
 fn nothing(at: u16, supply: Supply) -> Paid
-    ensures { result ≡ record { outcome = Outcome.Empty; cursor = record { at = at; supply = supply } } }
+    ensures { result ≡ record { result = CallResult.Empty; cursor = record { at = at; supply = supply } } }
 {
     Paid {
-        outcome: Outcome::Empty,
+        result: CallResult::Empty,
         cursor: Cursor { at, supply },
     }
 }

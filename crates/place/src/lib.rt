@@ -104,28 +104,17 @@ impl Place {
     pub fn is_idle(self) -> bool
         ensures { result ≡ idle self }
     {
-        match self {
-            Place::Idle => true,
-            Place::Enqueue(_, _) => false,
-            Place::Dequeue(_) => false,
-            Place::Batch(_, _) => false,
-            Place::Dequeues(_) => false,
-            Place::Running(_, _, _) => false,
-        }
+        matches!(self, Place::Idle)
     }
 
-    // The announcement that is run, 0 where none is. The remainder makes it total; no reachable machine
-    // comes there.
+    // The announcement that is run; 0 where none is, as the contract says, which an `Option` would not keep. The
+    // remainder makes it total; no reachable machine comes there.
     pub fn announcement(self) -> usize
         ensures { (result ≡ announcement_run self) × (result < 64) }
     {
         match self {
-            Place::Running(a, _, _) => (a % Announcement::ANNOUNCEMENTS) as usize,
-            Place::Idle => 0,
-            Place::Enqueue(_, _) => 0,
-            Place::Dequeue(_) => 0,
-            Place::Batch(_, _) => 0,
-            Place::Dequeues(_) => 0,
+            Place::Running(a, _, _) => usize::from(a % Announcement::ANNOUNCEMENTS),
+            _ => 0,
         }
     }
 }
@@ -137,24 +126,13 @@ impl After {
     {
         match self {
             After::On(place) => place,
-            After::Ok => Place::Idle,
-            After::Empty => Place::Idle,
-            After::Item(_) => Place::Idle,
-            After::Pair { from: _ } => Place::Idle,
-            After::PairDequeues { from: _, taken: _ } => Place::Idle,
+            _ => Place::Idle,
         }
     }
 
     pub fn goes_on(self) -> bool
         ensures { result ≡ goes_on self }
     {
-        match self {
-            After::On(_) => true,
-            After::Ok => false,
-            After::Empty => false,
-            After::Item(_) => false,
-            After::Pair { from: _ } => false,
-            After::PairDequeues { from: _, taken: _ } => false,
-        }
+        matches!(self, After::On(_))
     }
 }

@@ -1,3 +1,4 @@
 pub mod Distinct
 pub mod Tests
+pub mod Verdicts
 pub mod Determined

@@ -5,7 +5,7 @@
 ghost use Rattle.std.specs.Prelude.{◌≡◌};
 ghost use Rattle.refusal.specs.Numbers.{number_of};
 
-#[derive(Clone, Copy)]
+#[derive(Clone, Copy, Debug, PartialEq, Eq)]
 pub enum Refusal {
     // The thread is not below the thread count.
     NoSuchThread,
@@ -36,7 +36,7 @@ pub enum Refusal {
 }
 
 impl Refusal {
-    // The number that 01's table gives to the refusal.
+    // The number that 01's table gives to the refusal: the table itself, and no discriminants.
     pub fn number(self) -> u32
         ensures { result ≡ number_of self }
     {

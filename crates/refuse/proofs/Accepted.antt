@@ -9,23 +9,23 @@ use Rattle.place.specs.declared.Place.{Place}
 use Rattle.place.specs.declared.Place.TheVariants.{Idle, Enqueue, Dequeue, Batch, Dequeues, Running}
 use Rattle.place.specs.Place.{idle}
 use Rattle.row.specs.declared.Row.{Row}
-use Rattle.answer.specs.declared.Verdict.{Verdict}
-use Rattle.answer.specs.declared.Verdict.TheVariants.{Accepted, Refused}
-use Rattle.answer.proofs.Verdicts.{not_refused}
 use Rattle.next.specs.declared.Used.{Used}
 use Rattle.needs.specs.declared.Needs.{Needs}
 use Rattle.needs.specs.Needs.{short, lacking}
 use Rattle.refuse.specs.Refusals.{first, callable, call_verdict}
+use Rattle.refusal.proofs.Verdicts.{not_refused}
+use Rattle.refusal.specs.Verdicts.{Verdict, accepted}
+use Rattle.std.specs.Prelude.{Err, Ok}
 
-both_accepted : (v w : Verdict) → first v w ≡ Accepted → (v ≡ Accepted) × (w ≡ Accepted)
-both_accepted Accepted w e = (refl, e)
-both_accepted (Refused r) w e = not_refused e
+both_accepted : (v w : Verdict) → first v w ≡ accepted → (v ≡ accepted) × (w ≡ accepted)
+both_accepted (Ok ok) w e = (refl, e)
+both_accepted (Err r) w e = not_refused e
 
-passed : (b : Bool) (r : Refusal) (w : Verdict) → cond b (Refused r) w ≡ Accepted → (b ≡ false) × (w ≡ Accepted)
+passed : (b : Bool) (r : Refusal) (w : Verdict) → cond b (Err r) w ≡ accepted → (b ≡ false) × (w ≡ accepted)
 passed true r w e = not_refused e
 passed false r w e = (refl, e)
 
-true_where_accepted : (b : Bool) (r : Refusal) → cond b Accepted (Refused r) ≡ Accepted → b ≡ true
+true_where_accepted : (b : Bool) (r : Refusal) → cond b accepted (Err r) ≡ accepted → b ≡ true
 true_where_accepted true r e = refl
 true_where_accepted false r e = not_refused e
 
@@ -37,10 +37,10 @@ idle_place (Batch b x) e = absurd (false≢true e)
 idle_place (Dequeues x) e = absurd (false≢true e)
 idle_place (Running a x k) e = absurd (false≢true e)
 
-pub callable_is_below : (t threads : ℕ) (p : Place) → callable t threads p ≡ Accepted → t < threads
+pub callable_is_below : (t threads : ℕ) (p : Place) → callable t threads p ≡ accepted → t < threads
 callable_is_below t threads p e = leb-false threads t (passed (leb threads t) _ _ e).0
 
-pub callable_is_idle : (t threads : ℕ) (p : Place) → callable t threads p ≡ Accepted → p ≡ Idle
+pub callable_is_idle : (t threads : ℕ) (p : Place) → callable t threads p ≡ accepted → p ≡ Idle
 callable_is_idle t threads p e = idle_place p (true_where_accepted (idle p) _ (passed (leb threads t) _ _ e).1)
 
 is_left : (needed : Bool) (used all : ℕ) → short needed used all ≡ false → needed ≡ true → used < all
@@ -54,7 +54,7 @@ pub record Left (n : Needs) (u : Used) (nodes pending : ℕ) : Type 0 where
   pub place : n.future ≡ true → pending < 32
   pub announcement : n.announcement ≡ true → u.announcements < 64
 
-pub nothing_lacks : (n : Needs) (u : Used) (nodes pending : ℕ) → lacking n u nodes pending ≡ Accepted → Left n u nodes pending
+pub nothing_lacks : (n : Needs) (u : Used) (nodes pending : ℕ) → lacking n u nodes pending ≡ accepted → Left n u nodes pending
 nothing_lacks n u nodes pending e =
     let a = passed (short n.node u.nodes nodes) _ _ e in
     let b = passed (short n.future u.futures 512) _ _ a.1 in
@@ -67,7 +67,7 @@ nothing_lacks n u nodes pending e =
       announcement = is_left n.announcement u.announcements 64 d.0;
     }
 
-pub call_accepted : (t threads : ℕ) (r : Row) (u : Used) (nodes : ℕ) (n : Needs) → call_verdict t threads r u nodes n ≡ Accepted
+pub call_accepted : (t threads : ℕ) (r : Row) (u : Used) (nodes : ℕ) (n : Needs) → call_verdict t threads r u nodes n ≡ accepted
     → (r.place ≡ Idle) × Left n u nodes r.count
 call_accepted t threads r u nodes n e =
     let w = both_accepted (callable t threads r.place) (lacking n u nodes r.count) e in

@@ -1,32 +1,30 @@
 -- 01, "Refusal numbers", 1 to 8: when each is given. Order within an entry: 1, then 2 or 3, then 8, 4, 5, 6, 7.
-use Rattle.std.specs.Prelude.{ℕ, Bool, true, not, cond, eqb, ltb, leb}
+use Rattle.std.specs.Prelude.{ℕ, Bool, true, not, cond, eqb, ltb, leb, None, Some, Ok, Err}
 use Rattle.refusal.specs.declared.Refusal.TheVariants.{NoSuchThread, InCall, NotInCall, NotOwnFuture}
 use Rattle.place.specs.declared.Place.{Place}
 use Rattle.row.specs.declared.Row.{Row}
 use Rattle.place.specs.Place.{idle}
-use Rattle.answer.specs.declared.Verdict.{Verdict}
-use Rattle.answer.specs.declared.Verdict.TheVariants.{Accepted, Refused}
-use Rattle.answer.specs.declared.Outcome.{Outcome}
-use Rattle.answer.specs.declared.Outcome.TheVariants as outcome
+use Rattle.answer.specs.Answer.{Outcome}
 use Rattle.answer.specs.declared.Future.{Future}
 use Rattle.entry.specs.declared.Entry.{Entry}
 use Rattle.entry.specs.declared.Entry.TheVariants.{Enqueue, Dequeue, FutureEnqueue, FutureDequeue, Evaluate, Step, Run}
 use Rattle.next.specs.declared.Used.{Used}
 use Rattle.needs.specs.declared.Needs.{Needs}
 use Rattle.needs.specs.Needs.{lacking, needs_of}
+use Rattle.refusal.specs.Verdicts.{Verdict, accepted}
 
 -- the first of two tests that refuses decides
 abbrev pub first : Verdict → Verdict → Verdict
-first Accepted w = w
-first (Refused r) w = Refused r
+first (Ok ok) w = w
+first (Err r) w = Err r
 
 -- 1: t is not below the thread count. 2: codes 1 to 5, and t is in a call.
 abbrev pub callable : ℕ → ℕ → Place → Verdict
-callable t threads p = cond (leb threads t) (Refused NoSuchThread) (cond (idle p) Accepted (Refused InCall))
+callable t threads p = cond (leb threads t) (Err NoSuchThread) (cond (idle p) accepted (Err InCall))
 
 -- 1. 3: codes 6, 7, and t is idle.
 abbrev pub steppable : ℕ → ℕ → Place → Verdict
-steppable t threads p = cond (leb threads t) (Refused NoSuchThread) (cond (idle p) (Refused NotInCall) Accepted)
+steppable t threads p = cond (leb threads t) (Err NoSuchThread) (cond (idle p) (Err NotInCall) accepted)
 
 -- 8: f was not handed out, or belongs to another thread
 abbrev pub foreign : ℕ → ℕ → ℕ → ℕ → Bool
@@ -38,13 +36,11 @@ call_verdict t threads r u nodes n = first (callable t threads r.place) (lacking
 
 -- Evaluate: 8, then what setting off its batch lacks where the future is not done
 abbrev pub waiting_verdict : Outcome → Verdict → Verdict
-waiting_verdict outcome.Waiting lack = lack
-waiting_verdict outcome.Ok lack = Accepted
-waiting_verdict (outcome.Item v) lack = Accepted
-waiting_verdict outcome.Empty lack = Accepted
+waiting_verdict None lack = lack
+waiting_verdict (Some result) lack = accepted
 
 abbrev pub own_verdict : ℕ → ℕ → ℕ → Future → Verdict → Verdict
-own_verdict t f used x lack = cond (foreign f x.owner used t) (Refused NotOwnFuture) (waiting_verdict x.outcome lack)
+own_verdict t f used x lack = cond (foreign f x.owner used t) (Err NotOwnFuture) (waiting_verdict x.outcome lack)
 
 -- all tests of an entry: p is the place of its thread, x the future that it names, used counts the futures, lack is what the entry lacks
 abbrev pub tested : Entry → ℕ → Place → ℕ → Future → Verdict → Verdict

@@ -2,74 +2,65 @@
 #![tactic(auto)]
 
 ghost use Rattle.std.specs.Prelude.{◌≡◌};
-ghost use Rattle.refuse.specs.Refusals.{first, callable, steppable, foreign, own_verdict, tested, verdict};
+ghost use Rattle.refuse.specs.Refusals.{callable, steppable, foreign, own_verdict, tested, verdict};
 
-use answer::{Future, Outcome, Verdict};
+use answer::Future;
 use entry::Entry;
 use next::Used;
 use place::Place;
 use refusal::Refusal;
 use row::Row;
 
-// The first of two tests that refuses decides.
-fn first(test: Verdict, next: Verdict) -> Verdict
-    ensures { result ≡ first test next }
-{
-    match test {
-        Verdict::Refused(refusal) => Verdict::Refused(refusal),
-        Verdict::Accepted => next,
-    }
-}
-
-// Refusals 1 and 2: the thread is there, and idle.
-fn callable(thread: u32, threads: u32, place: Place) -> Verdict
+// Refusals 1 and 2: the thread is there, and idle. This and `steppable` are two and no generic one: the definitions of both names
+// are two rows of the table, and one function would be told which it is and ask it again.
+fn callable(thread: u32, threads: u32, place: Place) -> Result<(), Refusal>
     ensures { result ≡ callable thread threads place }
 {
     if threads <= thread {
-        return Verdict::Refused(Refusal::NoSuchThread);
+        return Err(Refusal::NoSuchThread);
     }
     if place.is_idle() {
-        return Verdict::Accepted;
+        return Ok(());
     }
-    Verdict::Refused(Refusal::InCall)
+    Err(Refusal::InCall)
 }
 
 // Refusals 1 and 3: the thread is there, and in a call.
-fn steppable(thread: u32, threads: u32, place: Place) -> Verdict
+fn steppable(thread: u32, threads: u32, place: Place) -> Result<(), Refusal>
     ensures { result ≡ steppable thread threads place }
 {
     if threads <= thread {
-        return Verdict::Refused(Refusal::NoSuchThread);
+        return Err(Refusal::NoSuchThread);
     }
     if place.is_idle() {
-        return Verdict::Refused(Refusal::NotInCall);
+        return Err(Refusal::NotInCall);
     }
-    Verdict::Accepted
+    Ok(())
 }
 
 // Refusal 8: the future was not handed out, or belongs to another thread.
 fn foreign(future: u32, owner: u8, used: u32, thread: u32) -> bool
     ensures { result ≡ foreign future owner used thread }
 {
-    if future < used {
-        return owner as u32 != thread;
-    }
-    true
+    used <= future || u32::from(owner) != thread
 }
 
 // Evaluate of an idle thread: 8, then what its batch lacks where the future is not done.
-fn own_verdict(thread: u32, future: u32, used: u32, asked: Future, lacking: Verdict) -> Verdict
+fn own_verdict(
+    thread: u32,
+    future: u32,
+    used: u32,
+    asked: Future,
+    lacking: Result<(), Refusal>,
+) -> Result<(), Refusal>
     ensures { result ≡ own_verdict thread future used asked lacking }
 {
     if foreign(future, asked.owner, used, thread) {
-        return Verdict::Refused(Refusal::NotOwnFuture);
+        return Err(Refusal::NotOwnFuture);
     }
-    let outcome = asked.outcome;
-    match outcome {
-        Outcome::Waiting => lacking,
-        Outcome::Ok => Verdict::Accepted,
-        Outcome::Item(_) => Verdict::Accepted,
-        Outcome::Empty => Verdict::Accepted,
+    match asked.outcome {
+        None => lacking,
+        Some(_) => Ok(()),
     }
 }
 
@@ -81,30 +72,29 @@ fn tested(
     place: Place,
     used: u32,
     asked: Future,
-    lacking: Verdict,
-) -> Verdict
+    lacking: Result<(), Refusal>,
+) -> Result<(), Refusal>
     ensures { result ≡ tested entry threads place used asked lacking }
 {
     let thread = entry.thread();
-    let here = callable(thread, threads, place);
     match entry {
-        Entry::Enqueue { thread: _, item: _ } => first(here, lacking),
-        Entry::Dequeue { thread: _ } => first(here, lacking),
-        Entry::FutureEnqueue { thread: _, item: _ } => first(here, lacking),
-        Entry::FutureDequeue { thread: _ } => first(here, lacking),
-        Entry::Evaluate { thread: _, future } => {
-            first(here, own_verdict(thread, future, used, asked, lacking))
+        Entry::Enqueue { .. }
+        | Entry::Dequeue { .. }
+        | Entry::FutureEnqueue { .. }
+        | Entry::FutureDequeue { .. } => {
+            callable(thread, threads, place)?;
+            lacking
         }
-        Entry::Step { thread: _ } => steppable(thread, threads, place),
-        Entry::Run {
-            thread: _,
-            steps: _,
-        } => steppable(thread, threads, place),
+        Entry::Evaluate { future, .. } => {
+            callable(thread, threads, place)?;
+            own_verdict(thread, future, used, asked, lacking)
+        }
+        Entry::Step { .. } | Entry::Run { .. } => steppable(thread, threads, place),
     }
 }
 
-// Whether an entry is refused, on a machine of some threads and nodes: `row` is its thread's, `asked` the
-// future that it names.
+// Whether an entry is refused, on a machine of some threads and nodes, each by itself, as the public contract has them: `row` is
+// its thread's, `asked` the future that it names.
 #[tactic(auto, unfolding(crate::specs::Refusals::verdict))]
 pub fn verdict(
     entry: Entry,
@@ -113,11 +103,10 @@ pub fn verdict(
     used: Used,
     row: Row,
     asked: Future,
-) -> Verdict
+) -> Result<(), Refusal>
     ensures { result ≡ verdict entry threads nodes used row asked }
 {
-    let place = row.place;
     let needs = needs::of(entry, row);
     let lacking = needs.lacking(used, nodes, row.count);
-    tested(entry, threads, place, used.futures, asked, lacking)
+    tested(entry, threads, row.place, used.futures, asked, lacking)
 }

@@ -25,6 +25,18 @@ calling r p f = record { place = p; pending = r.pending; count = r.count; tally 
 abbrev pub first_with : Row → ℕ → ℕ
 first_with r n = cond (r.tally.enqueues == 0) n r.first
 
+-- one more pending call, of the future f, before the tally has it
+abbrev pub pushed : Row → ℕ → Row
+pushed r f = record {
+  place = r.place;
+  pending = slice_set r.pending (r.count % 32) f;
+  count = up r.count;
+  tally = r.tally;
+  first = r.first;
+  last = r.last;
+  future = r.future;
+}
+
 -- one more pending call, of the future f; an enqueue's node n is the batch's last
 abbrev pub with_enqueue : Row → ℕ → ℕ → Row
 with_enqueue r f n = record {

@@ -2,15 +2,17 @@
 #![tactic(auto)]
 
 ghost use Rattle.std.specs.Prelude.{◌≡◌};
-ghost use Rattle.row.specs.Row.{fresh_row, placed, calling, first_with, with_enqueue, with_dequeue, cleared, request};
+ghost use Rattle.row.specs.Row.{fresh_row, placed, calling, pushed, with_enqueue, with_dequeue, cleared, request};
 
-use cells::{DequeueCount, Front, Request};
+use cells::{Front, Request};
 use place::Place;
 use tally::Tally;
 
 // Pending calls are held by their futures, in calling order; `count` of them. `first` and `last` are the
-// nodes of the first and the last pending enqueue, where there is one. `future` is the future whose result
-// ends the batch's call: the one named in Evaluate, or the single call's own.
+// nodes of the first and the last pending enqueue, where there is one; 0 else, as `first_with` and `request` have it, and no
+// `Option`. `future` is the future whose result
+// ends the batch's call: the one named in Evaluate, or the single call's own. The pending calls stay an array and a count: the
+// theorems on the queue speak of both (`pending_future`).
 #[derive(Clone, Copy)]
 pub struct Row {
     pub place: Place,
@@ -28,7 +30,7 @@ impl Row {
     // As many counts of pending calls as there can be, none among them.
     pub const COUNTS: u32 = 33;
 
-    // Idle, with nothing pending.
+    // Idle, with nothing pending: public, so by its name and not as a `Default`.
     pub fn fresh() -> Row
         ensures { result ≡ fresh_row }
     {
@@ -43,105 +45,100 @@ impl Row {
         }
     }
 
-    pub fn at(self, place: Place) -> Row
+    // The methods by value stand beside those in place, which do the work: their promises may not go.
+    pub fn at(mut self, place: Place) -> Row
         ensures { result ≡ placed self place }
     {
-        let pending = self.pending;
-        let tally = self.tally;
-        Row {
-            place,
-            pending,
-            count: self.count,
-            tally,
-            first: self.first,
-            last: self.last,
-            future: self.future,
-        }
+        self.place = place;
+        self
+    }
+
+    // Sets off a batch's call, whose answer will be the result of a future.
+    pub fn call(&mut self, place: Place, future: u16)
+        ensures { self.new ≡ calling self.old place future }
+    {
+        self.place = place;
+        self.future = future;
     }
 
     // In a batch's call, whose answer will be the result of a future.
-    pub fn calling(self, place: Place, future: u16) -> Row
+    pub fn calling(mut self, place: Place, future: u16) -> Row
         ensures { result ≡ calling self place future }
     {
-        let pending = self.pending;
-        let tally = self.tally;
-        Row {
-            place,
-            pending,
-            count: self.count,
-            tally,
-            first: self.first,
-            last: self.last,
-            future,
-        }
+        self.call(place, future);
+        self
     }
 
-    // One more pending enqueue. The remainder makes it total: 6 is tested before.
+    // One more pending enqueue.
+    pub fn push_enqueue(&mut self, future: u16, node: u16)
+        ensures { self.new ≡ with_enqueue self.old future node }
+    {
+        if self.tally.enqueues == 0 {
+            self.first = node;
+        }
+        self.last = node;
+        self.push(future);
+        self.tally.note_enqueue();
+    }
+
+    // The row with one more pending enqueue.
     pub fn with_enqueue(mut self, future: u16, node: u16) -> Row
         ensures { result ≡ with_enqueue self future node }
     {
-        let at = (self.count % Row::PENDING) as usize;
-        let tally = self.tally;
-        self.first = self.first_with(node);
-        self.pending[at] = future;
-        self.count = std::num::wrapping_add_u32(self.count, 1);
-        self.tally = tally.with_enqueue();
-        self.last = node;
+        self.push_enqueue(future, node);
         self
-    }
-
-    // The first pending enqueue's node, once an enqueue of this node is pending.
-    fn first_with(self, node: u16) -> u16
-        ensures { result ≡ first_with self node }
-    {
-        let tally = self.tally;
-        if tally.enqueues == 0 {
-            return node;
-        }
-        self.first
     }
 
     // One more pending dequeue.
+    pub fn push_dequeue(&mut self, future: u16)
+        ensures { self.new ≡ with_dequeue self.old future }
+    {
+        self.push(future);
+        self.tally.note_dequeue();
+    }
+
+    // The row with one more pending dequeue.
     pub fn with_dequeue(mut self, future: u16) -> Row
         ensures { result ≡ with_dequeue self future }
     {
-        let at = (self.count % Row::PENDING) as usize;
-        let tally = self.tally;
-        self.pending[at] = future;
-        self.count = std::num::wrapping_add_u32(self.count, 1);
-        self.tally = tally.with_dequeue();
+        self.push_dequeue(future);
         self
     }
 
+    // One more pending call. The remainder makes it total: that a place is left is tested before.
+    fn push(&mut self, future: u16)
+        ensures { self.new ≡ pushed self.old future }
+    {
+        self.pending[(self.count % Row::PENDING) as usize] = future;
+        self.count = self.count.wrapping_add(1);
+    }
+
     // The call over: idle, the pending list and the tally cleared.
-    pub fn cleared(self) -> Row
+    pub fn clear(&mut self)
+        ensures { self.new ≡ cleared self.old }
+    {
+        self.place = Place::Idle;
+        self.count = 0;
+        self.tally = Tally::none();
+    }
+
+    // The row with the call over.
+    pub fn cleared(mut self) -> Row
         ensures { result ≡ cleared self }
     {
-        let pending = self.pending;
-        Row {
-            place: Place::Idle,
-            pending,
-            count: 0,
-            tally: Tally::none(),
-            first: self.first,
-            last: self.last,
-            future: self.future,
-        }
+        self.clear();
+        self
     }
 
     // What an announcement of the pending calls asks for. Its old head is set at b2.
     pub fn request(self) -> Request
         ensures { result ≡ request self }
     {
-        let tally = self.tally;
         Request {
             first: self.first,
             last: self.last,
-            tally,
-            old_head: Front {
-                node: 0,
-                count: DequeueCount(0),
-            },
+            tally: self.tally,
+            old_head: Front::default(),
         }
     }
 }

@@ -1,13 +1,10 @@
 -- 01, "Steps", Running an announcement; listing 5 (lines 39 to 72). The announcement is a, its request k.
 -- A read of line 45 or 49 is no step of its own: a set next link never changes, so it is what the CAS of line 44 found.
-use Rattle.std.specs.Prelude.{ℕ, ◌-◌, cond, eqb, ltb, leb}
+use Rattle.std.specs.Prelude.{ℕ, ◌-◌, cond, eqb, ltb, leb, None, Some}
 use Rattle.tally.specs.Tally.{successful_on}
 use Rattle.cells.specs.declared.Tail.{Tail}
 use Rattle.cells.specs.declared.Head.TheVariants.{Announced}
-use Rattle.cells.specs.declared.Link.{Link}
-use Rattle.cells.specs.declared.Link.TheVariants.{None, To}
-use Rattle.cells.specs.declared.OldTail.{OldTail}
-use Rattle.cells.specs.declared.OldTail.TheVariants.{Unset, Set}
+use Rattle.cells.specs.Links.{Link, OldTail}
 use Rattle.cells.specs.declared.Request.{Request}
 use Rattle.access.specs.declared.Access.{Access}
 use Rattle.access.specs.declared.Access.TheVariants.{ReadTail, ReadLink, ReadOldTail, CasLink, CasTail, CasHead, WriteOldTail}
@@ -41,13 +38,13 @@ run_access a k (A8 t x) = CasTail t (past_tail t x 1)
 
 -- a2 set: a5
 abbrev pub after_a2 : Tail → OldTail → RunStep
-after_a2 t Unset = A3 t
-after_a2 t (Set o) = A5 o
+after_a2 t None = A3 t
+after_a2 t (Some o) = A5 o
 
 -- a3 taken, or the found node is its first: a4; else a8
 abbrev pub after_a3 : Tail → Link → ℕ → RunStep
 after_a3 t None first = A4 t
-after_a3 t (To x) first = cond (eqb x first) (A4 t) (A8 t x)
+after_a3 t (Some x) first = cond (eqb x first) (A4 t) (A8 t x)
 
 -- size z = old tail's count − old head's count
 abbrev pub size_at : Request → Tail → ℕ
@@ -67,7 +64,7 @@ walk_to k o = walk_by k o (size_at k o) (successful_on k.tally (size_at k o))
 -- a6 once per node walked
 abbrev pub after_a6 : ℕ → ℕ → ℕ → Link → RunStep
 after_a6 s x left None = A7 s x
-after_a6 s x left (To y) = cond (leb left 1) (A7 s y) (A6 s y (left - 1))
+after_a6 s x left (Some y) = cond (leb left 1) (A7 s y) (A6 s y (left - 1))
 
 -- back to the call that met the announcement; the own one ends the call
 abbrev pub back : Request → Resume → After

@@ -1,14 +1,18 @@
 -- The codes are 1 to 7, no more and no fewer: each of them has operands, and what holds of each of them holds of every number that has.
 -- And an entry is the same thing as its code with its operands, for the reader as for the writer.
 use Prim.Native.Nat.{ℕ, zero, suc, ◌<◌, ◌≤◌}
-use mathlib.Core.Path.{◌≡◌, refl, sym, subst}
+use mathlib.Core.Path.{◌≡◌, refl, sym, ap, ◌∙◌, subst}
 use native.Mathlib.Omega.{arith}
 use native.Mathlib.Decide.{ℕ_discrete}
 use borrow.Author.Tests.{ne_eqb}
 use Rattle.entry.specs.declared.Entry.{Entry}
 use Rattle.entry.specs.declared.Entry.TheVariants.{Enqueue, Dequeue, FutureEnqueue, FutureDequeue, Evaluate, Step, Run}
 use Rattle.entry.specs.Operands.{thread_of}
-use Rattle.schedule.specs.Codes.{operands, entry_of, code_of, second_of}
+use Rattle.std.specs.Prelude.{Bool, true, false, eqb, Result, Ok, Err}
+use Rattle.refusal.specs.declared.Refusal.{Refusal}
+use Rattle.refusal.specs.declared.Refusal.TheVariants.{NoSuchCode}
+use Rattle.schedule.specs.declared.code.Code.{Code}
+use Rattle.schedule.specs.Codes.{operands, entry_of, code_of, second_of, code_at, number_of}
 use Rattle.schedule.specs.Write.{entry_bytes}
 use Rattle.schedule.specs.Schedule.{bytes_of}
 
@@ -58,6 +62,44 @@ one_to_seven_is_a_code (suc (suc (suc (suc (suc zero))))) low high z = omega ari
 one_to_seven_is_a_code (suc (suc (suc (suc (suc (suc zero)))))) low high z = omega arith
 one_to_seven_is_a_code (suc (suc (suc (suc (suc (suc (suc zero))))))) low high z = omega arith
 one_to_seven_is_a_code (suc (suc (suc (suc (suc (suc (suc (suc n)))))))) low high z = omega arith
+
+-- a number that has operands is a code's
+found : Result Code Refusal → ℕ
+found (Ok c) = number_of c
+found (Err r) = 0
+
+code_found : (n : ℕ) → IsCode n → found (code_at n) ≡ n
+unfolding code_at found
+code_found = each_code (λ n. found (code_at n) ≡ n) refl refl refl refl refl refl refl
+
+-- and the others are refused 12
+no_code : (n : ℕ) → operands n ≡ 0 → code_at n ≡ Err NoSuchCode
+unfolding code_at
+no_code n none =
+    let other : (k : ℕ) → 1 ≤ k → k ≤ 7 → n ≡ k → ⊥ = λ k low high e. one_to_seven_is_a_code k low high (ap operands (sym e) ∙ none) in
+    simp (
+      ne_eqb n 1 (other 1 (omega arith) (omega arith)),
+      ne_eqb n 2 (other 2 (omega arith) (omega arith)),
+      ne_eqb n 3 (other 3 (omega arith) (omega arith)),
+      ne_eqb n 4 (other 4 (omega arith) (omega arith)),
+      ne_eqb n 5 (other 5 (omega arith) (omega arith)),
+      ne_eqb n 6 (other 6 (omega arith) (omega arith)),
+      ne_eqb n 7 (other 7 (omega arith) (omega arith)),
+    )
+
+pub code_read : (n : ℕ) {c : Code} → code_at n ≡ Ok c → (number_of c ≡ n) × (eqb (operands n) 0 ≡ false)
+unfolding found
+code_read n e = elim (ℕ_discrete (operands n) 0) [
+  | yes none ↦ absurd (let z : ◌≡◌ {A = ℕ} 0 1 = cc (no_code n none) in omega arith)
+  | no some ↦ (sym (ap found e) ∙ code_found n some, ne_eqb (operands n) 0 some)
+]
+
+pub code_refused : (n : ℕ) {r : Refusal} → code_at n ≡ Err r → (r ≡ NoSuchCode) × (eqb (operands n) 0 ≡ true)
+unfolding found
+code_refused n {r} e = elim (ℕ_discrete (operands n) 0) [
+  | yes none ↦ (let same : ◌≡◌ {A = Result Code Refusal} (Err r) (Err NoSuchCode) = sym e ∙ no_code n none in cc, ap (λ (k : ℕ). eqb k 0) none)
+  | no some ↦ absurd (let zero_is : n ≡ 0 = sym (code_found n some) ∙ ap found e in omega (arith, zero_is, (code_is_1_to_7 n some).0))
+]
 
 pub one_or_two : (code : ℕ) → IsCode code → (0 < operands code) × (operands code ≤ 2)
 unfolding operands

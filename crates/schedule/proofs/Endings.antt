@@ -11,60 +11,57 @@ use lib.ListN.{length, drop}
 use Rattle.refusal.specs.declared.Refusal.{Refusal}
 use Rattle.refusal.specs.declared.Refusal.TheVariants.{SetupOutOfRange}
 use Rattle.refusal.specs.Numbers.{number_of}
-use Rattle.numbers.specs.declared.Reading.TheVariants.{Refused}
 use Rattle.numbers.proofs.Within.{refused_by_10_or_11}
 use Rattle.numbers.specs.Read.{number_at, Bytes}
 use Rattle.entry.specs.declared.Entry.{Entry}
-use Rattle.answer.specs.declared.Verdict.TheVariants as verdict
-use Rattle.schedule.specs.declared.read.SetUpReading.TheVariants as setup
-use Rattle.schedule.specs.declared.read.EntryReading.{EntryReading}
-use Rattle.schedule.specs.declared.read.EntryReading.TheVariants as entry
-use Rattle.schedule.specs.Read.{set_up_of, entry_at}
+use Rattle.schedule.specs.Read.{set_up_of, entry_at, EntryReading, an_entry}
 use Rattle.schedule.specs.Schedule.{Ending, ended, refused, Entries, first, go_on, entries_up_to, entries_from, bytes_of, bytes_of_all}
 use Rattle.schedule.proofs.Ways.{EntryWay, entry_way, SetUpWay, set_up_way}
 use Rattle.schedule.proofs.Within.{entry_within}
 use Rattle.schedule.proofs.RoundTrip.{AllFit, ends_here}
 use Rattle.schedule.proofs.Written.{entry_is_written}
+use Rattle.refusal.specs.Verdicts.{accepted}
+use Rattle.std.specs.Prelude.{Err, None, Ok, Some}
 
 -- a refusal from one number of 01's table to another
 abbrev pub Between : ℕ → ℕ → Refusal → Type 0
 Between low high r = (low ≤ number_of r) × (number_of r ≤ high)
 
-number_refusals : (s : List ℕ) (at : ℕ) (r : Refusal) → number_at s at ≡ Refused r → Between 10 11 r
+number_refusals : (s : List ℕ) (at : ℕ) (r : Refusal) → number_at s at ≡ Err r → Between 10 11 r
 number_refusals s at r e = ⊎_elim (λ q. subst (Between 10 11) (sym q) (omega arith)) (λ q. subst (Between 10 11) (sym q) (omega arith)) (refused_by_10_or_11 s at r e)
 
 -- an entry is refused by 10, 11 or 12, a set-up by 9, 10 or 11
-pub entry_refusals : (s : List ℕ) (from : ℕ) (r : Refusal) → entry_at s from ≡ entry.Refused r → Between 10 12 r
+pub entry_refusals : (s : List ℕ) (from : ℕ) (r : Refusal) → entry_at s from ≡ Some (Err r) → Between 10 12 r
 entry_refusals s from r q = by_its_way r (subst (EntryWay s from) q (entry_way s from))
   where
-    by_its_way : (r : Refusal) → EntryWay s from (entry.Refused r) → Between 10 12 r
+    by_its_way : (r : Refusal) → EntryWay s from (Some (Err r)) → Between 10 12 r
     by_its_way r (EntryWay.number_refused at e) = omega (arith, number_refusals s at r e)
     by_its_way r (EntryWay.code_refused code next e z) = omega arith
 
 -- 9 is the only refusal of two numbers that have read well
-nine : {r : Refusal} (t : Bool) → cond t (verdict.Refused SetupOutOfRange) verdict.Accepted ≡ verdict.Refused r → SetupOutOfRange ≡ r
+nine : {r : Refusal} (t : Bool) → cond t (Err SetupOutOfRange) accepted ≡ Err r → SetupOutOfRange ≡ r
 nine true e = cc
 nine false e = absurd (let z : ◌≡◌ {A = ℕ} 0 1 = cc in omega arith)
 
-pub set_up_refusals : (s : List ℕ) (r : Refusal) → set_up_of s ≡ setup.Refused r → Between 9 11 r
+pub set_up_refusals : (s : List ℕ) (r : Refusal) → set_up_of s ≡ Err r → Between 9 11 r
 set_up_refusals s r q = by_its_way r (subst (SetUpWay s) q (set_up_way s))
   where
-    by_its_way : (r : Refusal) → SetUpWay s (setup.Refused r) → Between 9 11 r
+    by_its_way : (r : Refusal) → SetUpWay s (Err r) → Between 9 11 r
     by_its_way r (SetUpWay.number_refused at e) = omega (arith, number_refusals s at r e)
     by_its_way r (SetUpWay.out_of_range threads nodes e) = subst (Between 9 11) (nine (ltb threads 1 || ltb 8 threads || ltb nodes 2 || ltb 512 nodes) e) (omega arith)
 
 -- the end is answered only where no byte is left
-pub end_leaves_no_byte : (s : List ℕ) (from : ℕ) → entry_at s from ≡ entry.End → length s ≤ from
+pub end_leaves_no_byte : (s : List ℕ) (from : ℕ) → entry_at s from ≡ None → length s ≤ from
 end_leaves_no_byte s from q = by_its_way (subst (EntryWay s from) q (entry_way s from))
   where
-    by_its_way : EntryWay s from entry.End → length s ≤ from
+    by_its_way : EntryWay s from None → length s ≤ from
     by_its_way (EntryWay.no_byte_left h) = h
 
 -- the reading goes on alike where it goes on alike behind the entry
-alike : (r : EntryReading) {f g : ℕ → Entries} → ((e : Entry) (n : ℕ) → r ≡ entry.Entry e n → f n ≡ g n) → go_on r f ≡ go_on r g
-alike entry.End h = refl
-alike (entry.Refused r) h = refl
-alike (entry.Entry e n) h = ap (first e) (h e n refl)
+alike : (r : EntryReading) {f g : ℕ → Entries} → ((e : Entry) (n : ℕ) → r ≡ an_entry e n → f n ≡ g n) → go_on r f ≡ go_on r g
+alike None h = refl
+alike (Some (Err r)) h = refl
+alike (Some (Ok read)) h = ap (first read.entry) (h read.entry read.count refl)
 
 -- the entries up to k of them are the same for any two bounds that are enough
 any_bound : (k l : ℕ) (s : List ℕ) (from : ℕ) → length s < k + from → length s < l + from → entries_up_to k s from ≡ entries_up_to l s from
@@ -82,8 +79,8 @@ bound_not_met k s from h = any_bound k (suc (length s)) s from h (omega arith)
 
 -- the place where the reading of entries stops, and what stands there: no byte, or what was refused
 abbrev pub StopsAt : List ℕ → ℕ → Ending → Type 0
-StopsAt s p ended = (entry_at s p ≡ entry.End) × (length s ≤ p)
-StopsAt s p (refused r) = entry_at s p ≡ entry.Refused r
+StopsAt s p ended = (entry_at s p ≡ None) × (length s ≤ p)
+StopsAt s p (refused r) = entry_at s p ≡ Some (Err r)
 
 -- entries that were read from a place on: from there up to where reading stopped stand their bytes, and nothing else
 pub record Stands (s : List ℕ) (from : ℕ) (read : Entries) : Type 0 where
@@ -99,9 +96,11 @@ stands_up_to (suc k) s from bs h = one_more (entry_at s from) refl (λ n. stands
   where
     one_more : (r : EntryReading) → entry_at s from ≡ r → ((n : ℕ) → length s < k + (from + n) → Stands s (from + n) (entries_up_to k s (from + n)))
         → Stands s from (go_on r λ n. entries_up_to k s (from + n))
-    one_more entry.End q rest = record { place = from; bytes = refl; stops = (q, end_leaves_no_byte s from q); fit = tt }
-    one_more (entry.Refused r) q rest = record { place = from; bytes = refl; stops = q; fit = tt }
-    one_more (entry.Entry e n) q rest =
+    one_more None q rest = record { place = from; bytes = refl; stops = (q, end_leaves_no_byte s from q); fit = tt }
+    one_more (Some (Err r)) q rest = record { place = from; bytes = refl; stops = q; fit = tt }
+    one_more (Some (Ok read)) q rest =
+        let e = read.entry in
+        let n = read.count in
         let in-it = entry_within s from e n q in
         let w = entry_is_written s from e n bs q in
         let more = rest n (omega arith) in

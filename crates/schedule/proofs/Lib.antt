@@ -1,8 +1,6 @@
-pub mod HandedUp
 pub mod Codes
 pub mod Ways
 pub mod Within
-pub mod Behind
 pub mod RoundTrip
 pub mod Written
 pub mod Endings

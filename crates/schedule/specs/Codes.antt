@@ -1,7 +1,11 @@
 -- 01, "Entries": the table's codes, and the operands that each has.
-use Rattle.std.specs.Prelude.{ℕ, cond, ◌||◌, eqb}
+use Rattle.std.specs.Prelude.{ℕ, cond, ◌||◌, eqb, Result, Ok, Err}
+use Rattle.refusal.specs.declared.Refusal.{Refusal}
+use Rattle.refusal.specs.declared.Refusal.TheVariants.{NoSuchCode}
 use Rattle.entry.specs.declared.Entry.{Entry}
 use Rattle.entry.specs.declared.Entry.TheVariants.{Enqueue, Dequeue, FutureEnqueue, FutureDequeue, Evaluate, Step, Run}
+use Rattle.schedule.specs.declared.code.Code.{Code}
+use Rattle.schedule.specs.declared.code.Code.TheVariants as code
 
 -- how many operands a code has, the thread among them; 0 where it is not 1 to 7
 unfoldable pub operands : ℕ → ℕ
@@ -39,3 +43,24 @@ second_of (FutureDequeue t) = 0
 second_of (Evaluate t f) = f
 second_of (Step t) = 0
 second_of (Run t n) = n
+
+-- a code by its number, or 12; and its number
+unfoldable pub code_at : ℕ → Result Code Refusal
+code_at n =
+    cond (eqb n 1) (Ok code.Enqueue)
+    (cond (eqb n 2) (Ok code.Dequeue)
+    (cond (eqb n 3) (Ok code.FutureEnqueue)
+    (cond (eqb n 4) (Ok code.FutureDequeue)
+    (cond (eqb n 5) (Ok code.Evaluate)
+    (cond (eqb n 6) (Ok code.Step)
+    (cond (eqb n 7) (Ok code.Run)
+    (Err NoSuchCode)))))))
+
+abbrev pub number_of : Code → ℕ
+number_of code.Enqueue = 1
+number_of code.Dequeue = 2
+number_of code.FutureEnqueue = 3
+number_of code.FutureDequeue = 4
+number_of code.Evaluate = 5
+number_of code.Step = 6
+number_of code.Run = 7

@@ -1,12 +1,10 @@
 -- 01, "Schedule bytes and listing": a whole schedule. It is the thread number, the node number, then entries; an entry is read only when its code and every operand read well.
-use Rattle.std.specs.Prelude.{ℕ, zero, suc, ◌+◌, List, [], ◌∷◌, ◌++◌, length}
+use Rattle.std.specs.Prelude.{ℕ, zero, suc, ◌+◌, List, [], ◌∷◌, ◌++◌, length, Err, None, Ok, Some}
 use Rattle.refusal.specs.declared.Refusal.{Refusal}
 use Rattle.entry.specs.declared.Entry.{Entry}
-use Rattle.schedule.specs.declared.read.EntryReading.{EntryReading}
-use Rattle.schedule.specs.declared.read.EntryReading.TheVariants as entry
 use Rattle.entry.specs.Operands.{thread_of}
 use Rattle.schedule.specs.Codes.{code_of, second_of}
-use Rattle.schedule.specs.Read.{entry_at}
+use Rattle.schedule.specs.Read.{entry_at, EntryReading}
 use Rattle.schedule.specs.Write.{set_up_bytes, entry_bytes}
 
 -- how the entries end: no byte is left, or the next one is refused
@@ -27,9 +25,9 @@ first e rest = record { entries = e ∷ rest.entries; ending = rest.ending }
 
 -- the entries from a place on, k at most. Each takes a byte at least, so those of s are not more than its bytes.
 abbrev pub go_on : EntryReading → (ℕ → Entries) → Entries
-go_on entry.End rest = none ended
-go_on (entry.Refused r) rest = none (refused r)
-go_on (entry.Entry e n) rest = first e (rest n)
+go_on None rest = none ended
+go_on (Some (Err r)) rest = none (refused r)
+go_on (Some (Ok read)) rest = first read.entry (rest read.count)
 
 unfoldable pub entries_up_to : ℕ → List ℕ → ℕ → Entries
 entries_up_to zero s from = none ended

@@ -2,11 +2,7 @@
 use mathlib.Core.Path.{refl}
 use Rattle.contracts.specs.Determined.{Determines}
 use Rattle.contracts.proofs.Told.{nothing_required, together, answer}
-use Rattle.set_up.specs.contracts.SetUp.fresh
-use Rattle.set_up.specs.contracts.SetUp.of
-
-pub fresh_determined : {M : Type 1} → Determines M fresh.ended (λ 𝓤. fresh.clauses {𝓤 = 𝓤})
-fresh_determined = record { for_all_inputs = nothing_required; one_outcome = λ i x y. together i (answer refl) }
+use Rattle.set_up.specs.contracts.of
 
 pub of_determined : {M : Type 1} → Determines M of.ended (λ 𝓤. of.clauses {𝓤 = 𝓤})
 of_determined = record { for_all_inputs = nothing_required; one_outcome = λ i x y. together i (answer refl) }

@@ -6,7 +6,7 @@
 ghost use Rattle.std.specs.Prelude.{◌≡◌, ◌-◌, max};
 ghost use Rattle.tally.specs.Tally.{nothing_pending, with_enqueue, with_dequeue, successful_on};
 
-#[derive(Clone, Copy)]
+#[derive(Clone, Copy, PartialEq, Eq, Debug, Default)]
 pub struct Tally {
     pub enqueues: u32,
     pub dequeues: u32,
@@ -14,32 +14,31 @@ pub struct Tally {
 }
 
 impl Tally {
-    // The tally of a thread that has nothing pending.
+    // The tally of a thread that has nothing pending: `default` by the name that its public promise has.
     pub fn none() -> Tally
         ensures { result ≡ nothing_pending }
     {
-        Tally {
-            enqueues: 0,
-            dequeues: 0,
-            excess: 0,
-        }
+        Tally::default()
     }
 
     // One more enqueue is pending, behind the others: noted in the tally that is lent.
     pub fn note_enqueue(&mut self)
         ensures { self.new ≡ with_enqueue self.old }
     {
-        *self = self.counting_enqueue();
+        self.enqueues = self.enqueues.wrapping_add(1);
     }
 
-    // One more dequeue is pending, behind the others: noted in the tally that is lent.
+    // One more dequeue is pending, behind the others: noted in the tally that is lent. Its lead goes into the
+    // excess where it is the larger.
     pub fn note_dequeue(&mut self)
         ensures { self.new ≡ with_dequeue self.old }
     {
-        *self = self.counting_dequeue();
+        self.dequeues = self.dequeues.wrapping_add(1);
+        self.excess = self.excess.max(self.dequeues.saturating_sub(self.enqueues));
     }
 
-    // The tally with one more enqueue noted in it: lent for that, and handed back.
+    // The tally with one more enqueue noted in it: lent for that, and handed back. By value beside `note_enqueue`, as
+    // `with_dequeue` beside `note_dequeue`: public promises, which may not go.
     pub fn with_enqueue(mut self) -> Tally
         ensures { result ≡ with_enqueue self }
     {
@@ -55,46 +54,19 @@ impl Tally {
         self
     }
 
-    // The counters with one more enqueue.
-    fn counting_enqueue(self) -> Tally
-        ensures { result ≡ with_enqueue self }
-    {
-        Tally {
-            enqueues: std::num::wrapping_add_u32(self.enqueues, 1),
-            dequeues: self.dequeues,
-            excess: self.excess,
-        }
-    }
-
-    // The counters with one more dequeue: its lead goes into the excess where it is the larger.
-    fn counting_dequeue(self) -> Tally
-        ensures { result ≡ with_dequeue self }
-    {
-        let dequeues = std::num::wrapping_add_u32(self.dequeues, 1);
-        Tally {
-            enqueues: self.enqueues,
-            dequeues,
-            excess: larger(self.excess, less(dequeues, self.enqueues)),
-        }
-    }
-
     // How many of the dequeues succeed where the batch is run on a queue of that size.
     pub fn successful(self, size: u32) -> u32
         ensures { result ≡ successful_on self size }
     {
-        less(self.dequeues, less(self.excess, size))
+        let failing = self.excess.saturating_sub(size);
+        self.dequeues.saturating_sub(failing)
     }
 }
 
-// a less b, and 0 where b is the larger: as 01 takes a size from an excess, and counts from each other.
+// a less b, and 0 where b is the larger: as 01 takes a size from an excess, and counts from each other. `saturating_sub` by the
+// name that its public promise has.
 pub fn less(a: u32, b: u32) -> u32
     ensures { result ≡ a - b }
 {
-    if b < a { a - b } else { 0 }
-}
-
-fn larger(a: u32, b: u32) -> u32
-    ensures { result ≡ max a b }
-{
-    if a < b { b } else { a }
+    a.saturating_sub(b)
 }

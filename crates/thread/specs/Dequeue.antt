@@ -1,10 +1,9 @@
 -- 01, "Steps", Dequeue; listing 2 (lines 16 to 21) with listing 3.
-use Rattle.std.specs.Prelude.{ℕ, Bool, true, false}
+use Rattle.std.specs.Prelude.{ℕ, Bool, true, false, None, Some}
 use Rattle.cells.specs.declared.Front.{Front}
 use Rattle.cells.specs.declared.Head.{Head}
 use Rattle.cells.specs.declared.Head.TheVariants.{Plain, Announced}
-use Rattle.cells.specs.declared.Link.{Link}
-use Rattle.cells.specs.declared.Link.TheVariants.{None, To}
+use Rattle.cells.specs.Links.{Link}
 use Rattle.access.specs.declared.Access.{Access}
 use Rattle.access.specs.declared.Access.TheVariants.{ReadHead, ReadLink, CasHead}
 use Rattle.found.specs.declared.Found.{Found}
@@ -35,7 +34,7 @@ after_d1 (Announced a) = after.On (place.Running a A1 resume.Dequeue)
 -- d2 none: ends empty
 abbrev pub after_d2 : Front → Link → After
 after_d2 f None = after.Empty
-after_d2 f (To x) = dequeue_at (D3 f x)
+after_d2 f (Some x) = dequeue_at (D3 f x)
 
 -- d3 taken: ends with its item, else d1
 abbrev pub after_d3 : ℕ → Bool → After

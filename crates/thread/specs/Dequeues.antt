@@ -1,9 +1,8 @@
 -- 01, "Steps", Batch of dequeues only; listing 7 (lines 94 to 107) with listing 3.
-use Rattle.std.specs.Prelude.{ℕ, Bool, true, false, cond, ◌==◌, nat_lt}
+use Rattle.std.specs.Prelude.{ℕ, Bool, true, false, cond, ◌==◌, nat_lt, None, Some}
 use Rattle.cells.specs.declared.Head.{Head}
 use Rattle.cells.specs.declared.Head.TheVariants.{Plain, Announced}
-use Rattle.cells.specs.declared.Link.{Link}
-use Rattle.cells.specs.declared.Link.TheVariants.{None, To}
+use Rattle.cells.specs.Links.{Link}
 use Rattle.access.specs.declared.Access.{Access}
 use Rattle.access.specs.declared.Access.TheVariants.{ReadHead, ReadLink, CasHead}
 use Rattle.found.specs.declared.Found.{Found}
@@ -45,7 +44,7 @@ goes_to w pending = cond (nat_lt w.taken pending) (dequeues_at (Q2 w)) (dequeues
 
 abbrev pub after_q2 : Walk → Link → ℕ → After
 after_q2 w None pending = stopped w
-after_q2 w (To x) pending = goes_to (one_further w x) pending
+after_q2 w (Some x) pending = goes_to (one_further w x) pending
 
 -- q3 taken: ends, else q1
 abbrev pub after_q3 : Walk → Bool → After

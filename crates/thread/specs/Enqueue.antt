@@ -1,11 +1,10 @@
 -- 01, "Steps", Enqueue; listing 1 (lines 4 to 13). The new node is n.
 -- The node and the tail's count that line 13 needs are those that e2 found and e1 read.
-use Rattle.std.specs.Prelude.{ℕ}
+use Rattle.std.specs.Prelude.{ℕ, None, Some}
 use Rattle.cells.specs.declared.Tail.{Tail}
 use Rattle.cells.specs.declared.Head.{Head}
 use Rattle.cells.specs.declared.Head.TheVariants.{Plain, Announced}
-use Rattle.cells.specs.declared.Link.{Link}
-use Rattle.cells.specs.declared.Link.TheVariants.{None, To}
+use Rattle.cells.specs.Links.{Link}
 use Rattle.access.specs.declared.Access.{Access}
 use Rattle.access.specs.declared.Access.TheVariants.{ReadHead, ReadTail, CasLink, CasTail}
 use Rattle.found.specs.declared.Found.{Found}
@@ -34,7 +33,7 @@ enqueue_at n s = after.On (place.Enqueue n s)
 -- e2 taken: e3, else e4
 abbrev pub after_e2 : ℕ → Tail → Link → After
 after_e2 n t None = enqueue_at n (E3 t)
-after_e2 n t (To x) = enqueue_at n (E4 t x)
+after_e2 n t (Some x) = enqueue_at n (E4 t x)
 
 -- e4 an announcement: run it, then e1; else e5
 abbrev pub after_e4 : ℕ → Tail → ℕ → Head → After

@@ -3,3 +3,4 @@ pub mod Dequeue
 pub mod Batch
 pub mod Dequeues
 pub mod Calls
+pub mod Met

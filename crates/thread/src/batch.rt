@@ -2,6 +2,7 @@
 ghost use Rattle.std.specs.Prelude.{◌≡◌};
 ghost use Rattle.thread.specs.Batch.{batch_access, batch_after, after_b1, after_b2};
 
+use crate::met::met;
 use access::Access;
 use cells::Head;
 use found::Found;
@@ -30,10 +31,9 @@ pub(crate) fn after(step: BatchStep, own: u8, found: Found) -> After
 fn after_b1(own: u8, head: Head) -> After
     ensures { result ≡ after_b1 own head }
 {
-    match head {
-        Head::Plain(front) => After::On(Place::Batch(own, BatchStep::B2(front))),
-        Head::Announced(a) => After::On(Place::Running(a, RunStep::A1, Resume::Batch(own))),
-    }
+    met(head, Resume::Batch(own), |front| {
+        Place::Batch(own, BatchStep::B2(front))
+    })
 }
 
 fn after_b2(own: u8, taken: bool) -> After

@@ -2,10 +2,11 @@
 ghost use Rattle.std.specs.Prelude.{◌≡◌};
 ghost use Rattle.thread.specs.Dequeue.{dequeue_access, dequeue_after, after_d1, after_d2, after_d3};
 
+use crate::met::met;
 use access::Access;
-use cells::{Front, Head, Link};
+use cells::{Front, Head};
 use found::Found;
-use place::{After, DequeueStep, Place, Resume, RunStep};
+use place::{After, DequeueStep, Place, Resume};
 
 #[tactic(auto, unfolding(crate::specs::Dequeue::dequeue_access))]
 pub(crate) fn access(step: DequeueStep) -> Access
@@ -35,18 +36,19 @@ pub(crate) fn after(step: DequeueStep, found: Found) -> After
 fn after_d1(head: Head) -> After
     ensures { result ≡ after_d1 head }
 {
-    match head {
-        Head::Plain(front) => After::On(Place::Dequeue(DequeueStep::D2(front))),
-        Head::Announced(a) => After::On(Place::Running(a, RunStep::A1, Resume::Dequeue)),
-    }
+    met(
+        head,
+        Resume::Dequeue,
+        |front| Place::Dequeue(DequeueStep::D2(front)),
+    )
 }
 
-fn after_d2(front: Front, link: Link) -> After
+fn after_d2(front: Front, link: Option<u16>) -> After
     ensures { result ≡ after_d2 front link }
 {
     match link {
-        Link::None => After::Empty,
-        Link::To(next) => After::On(Place::Dequeue(DequeueStep::D3(front, next))),
+        None => After::Empty,
+        Some(next) => After::On(Place::Dequeue(DequeueStep::D3(front, next))),
     }
 }
 

@@ -2,10 +2,11 @@
 ghost use Rattle.std.specs.Prelude.{◌≡◌};
 ghost use Rattle.thread.specs.Dequeues.{dequeues_access, dequeues_after, stopped, one_further, goes_to, after_q1, after_q2, after_q3};
 
+use crate::met::met;
 use access::Access;
-use cells::{Head, Link};
+use cells::Head;
 use found::Found;
-use place::{After, DequeuesStep, Place, Resume, RunStep, Walk};
+use place::{After, DequeuesStep, Place, Resume, Walk};
 
 #[tactic(auto, unfolding(crate::specs::Dequeues::dequeues_access))]
 pub(crate) fn access(step: DequeuesStep) -> Access
@@ -14,13 +15,10 @@ pub(crate) fn access(step: DequeuesStep) -> Access
     match step {
         DequeuesStep::Q1 => Access::ReadHead,
         DequeuesStep::Q2(walk) => Access::ReadLink { node: walk.at },
-        DequeuesStep::Q3(walk) => {
-            let front = walk.front;
-            Access::CasHead {
-                was: Head::Plain(front),
-                to: front.past(walk.at, walk.taken),
-            }
-        }
+        DequeuesStep::Q3(walk) => Access::CasHead {
+            was: Head::Plain(walk.front),
+            to: walk.front.past(walk.at, walk.taken),
+        },
     }
 }
 
@@ -38,32 +36,30 @@ pub(crate) fn after(step: DequeuesStep, found: Found, pending: u32) -> After
 fn after_q1(head: Head) -> After
     ensures { result ≡ after_q1 head }
 {
-    match head {
-        Head::Plain(front) => After::On(Place::Dequeues(DequeuesStep::Q2(Walk {
+    met(head, Resume::Dequeues, |front| {
+        Place::Dequeues(DequeuesStep::Q2(Walk {
             front,
             at: front.node,
             taken: 0,
-        }))),
-        Head::Announced(a) => After::On(Place::Running(a, RunStep::A1, Resume::Dequeues)),
-    }
+        }))
+    })
 }
 
-fn after_q2(walk: Walk, link: Link, pending: u32) -> After
+fn after_q2(walk: Walk, link: Option<u16>, pending: u32) -> After
     ensures { result ≡ after_q2 walk link pending }
 {
     match link {
-        Link::None => stopped(walk),
-        Link::To(next) => on(walk, next, pending),
+        None => stopped(walk),
+        Some(next) => on(walk, next, pending),
     }
 }
 
 fn after_q3(walk: Walk, taken: bool) -> After
     ensures { result ≡ after_q3 walk taken }
 {
-    let front = walk.front;
     if taken {
         return After::PairDequeues {
-            from: front.node,
+            from: walk.front.node,
             taken: walk.taken,
         };
     }
@@ -74,10 +70,9 @@ fn after_q3(walk: Walk, taken: bool) -> After
 fn stopped(walk: Walk) -> After
     ensures { result ≡ stopped walk }
 {
-    let front = walk.front;
     if walk.taken == 0 {
         return After::PairDequeues {
-            from: front.node,
+            from: walk.front.node,
             taken: 0,
         };
     }
@@ -88,11 +83,10 @@ fn stopped(walk: Walk) -> After
 fn on(walk: Walk, next: u16, pending: u32) -> After
     ensures { result ≡ goes_to (one_further walk next) pending }
 {
-    let front = walk.front;
     let further = Walk {
-        front,
         at: next,
-        taken: std::num::wrapping_add_u32(walk.taken, 1),
+        taken: walk.taken.wrapping_add(1),
+        ..walk
     };
     goes_to(further, pending)
 }

@@ -2,10 +2,11 @@
 ghost use Rattle.std.specs.Prelude.{◌≡◌};
 ghost use Rattle.thread.specs.Enqueue.{enqueue_access, enqueue_after, after_e2, after_e4};
 
+use crate::met::met;
 use access::Access;
-use cells::{Head, Link, Tail};
+use cells::{Head, Tail};
 use found::Found;
-use place::{After, EnqueueStep, Place, Resume, RunStep};
+use place::{After, EnqueueStep, Place, Resume};
 
 #[tactic(auto, unfolding(crate::specs::Enqueue::enqueue_access))]
 pub(crate) fn access(step: EnqueueStep, node: u16) -> Access
@@ -43,20 +44,19 @@ pub(crate) fn after(step: EnqueueStep, node: u16, found: Found) -> After
 }
 
 // Taken where the link found is none.
-fn after_e2(node: u16, tail: Tail, link: Link) -> After
+fn after_e2(node: u16, tail: Tail, link: Option<u16>) -> After
     ensures { result ≡ after_e2 node tail link }
 {
     match link {
-        Link::None => After::On(Place::Enqueue(node, EnqueueStep::E3(tail))),
-        Link::To(next) => After::On(Place::Enqueue(node, EnqueueStep::E4(tail, next))),
+        None => After::On(Place::Enqueue(node, EnqueueStep::E3(tail))),
+        Some(next) => After::On(Place::Enqueue(node, EnqueueStep::E4(tail, next))),
     }
 }
 
 fn after_e4(node: u16, tail: Tail, next: u16, head: Head) -> After
     ensures { result ≡ after_e4 node tail next head }
 {
-    match head {
-        Head::Plain(_) => After::On(Place::Enqueue(node, EnqueueStep::E5(tail, next))),
-        Head::Announced(a) => After::On(Place::Running(a, RunStep::A1, Resume::Enqueue(node))),
-    }
+    met(head, Resume::Enqueue(node), |_| {
+        Place::Enqueue(node, EnqueueStep::E5(tail, next))
+    })
 }

@@ -2,13 +2,15 @@
 // access found. Nothing here touches memory; that is how one step stays one access.
 //
 // A file for each of 01's four kinds of call, each with `access` and `after`; running an announcement is a
-// crate of its own, `running`.
+// crate of its own, `running`. Which step is taken is a match, as in the definitions: each has data of its own, which a table of
+// closures would have to be handed.
 #![tactic(auto)]
 
 pub mod batch;
 pub mod dequeue;
 pub mod dequeues;
 pub mod enqueue;
+pub(crate) mod met;
 
 ghost use Rattle.std.specs.Prelude.{◌≡◌};
 ghost use Rattle.thread.specs.Calls.{access, after};
@@ -19,7 +21,7 @@ use found::Found;
 use place::{After, Place};
 
 // The access of the next step, where the request is that of the announcement that is run. An idle
-// thread takes no step; its access has no meaning.
+// thread takes no step; its access has no meaning, and is the one that the definition names.
 pub fn access(place: Place, request: Request) -> Access
     ensures { result ≡ access place request }
 {

@@ -1,36 +1,25 @@
-use Prim.Native.Nat.{ℕ, ◌+◌, ◌-◌, ◌/◌, ◌<◌}
-use mathlib.Core.Path.{◌≡◌, refl, sym, ap, ◌∙◌, subst₂}
-use mathlib.Core.List.{List}
-use native.Mathlib.Omega.{arith}
-use lib.ListN.{length, take, set, length-set}
-use lib.Seq.{length-take-le}
-use Rattle.numbers.specs.Write.{groups_of}
-use Rattle.numbers.proofs.WrittenGroups.{Remaining, all_remain, another_may_follow, one_written, last_written, one_more_taken}
+use Rattle.std.proofs.Common.{◌≡◌, ◌-◌, ℕ, ◌/◌, List, length, sym, arith, ◌∙◌}
+use mathlib.Core.Path.{subst₂}
+use lib.ListN.{length-append}
+use Rattle.numbers.proofs.WrittenGroups.{Remaining, all_remain, another_may_follow, one_written, last_written}
 use Rattle.numbers.proofs.groups_of.Goals as goal
 
 pub loop-rest-init : goal.loop-rest-init
-loop-rest-init c = (omega arith, refl, all_remain _ c.ranges.n.fits)
+loop-rest-init c = rw c.new-groups.ensures (omega arith, all_remain _ c.ranges.n.fits)
 
 pub loop-rest-smaller : goal.loop-rest-smaller
-loop-rest-smaller c = omega (arith, another_may_follow c.loop-rest.invariant.2 c.loop-rest-test.true)
+loop-rest-smaller c =
+    omega (arith, another_may_follow c.loop-rest.invariant.1 c.loop-rest-test.true, c.push.ensures.len)
 
 pub loop-rest-preserved : goal.loop-rest-preserved
 loop-rest-preserved c =
     let l = c.loop-rest in
-    let more : 0 < 4 - l.count = another_may_follow l.invariant.2 c.loop-rest-test.true in
-    let here : l.count < length l.bytes = omega arith in (
-      omega arith,
-      simp length-set l.invariant.1,
-      subst₂ (λ (done : List ℕ) (k : ℕ). Remaining c.args.n done (l.rest / 128) k)
-          (sym (one_more_taken l.bytes l.count _ here))
-          (let z : 4 - l.count - 1 ≡ 4 - (l.count + 1) = omega arith in z)
-          (one_written l.invariant.2 c.loop-rest-test.true),
+    let more = another_may_follow l.invariant.1 c.loop-rest-test.true in
+    let one_more : 4 - length l.groups.items - 1 ≡ 4 - length c.push.new.self.items = omega (arith, c.push.ensures.len) in (
+      omega (arith, more, c.push.ensures.len),
+      subst₂ (λ (done : List ℕ) (k : ℕ). Remaining c.args.n done (l.rest / 128) k) (sym c.push.ensures.items) one_more
+          (one_written l.invariant.1 c.loop-rest-test.true),
     )
 
 pub returns : goal.returns
-returns c =
-    let l = c.loop-rest in
-    let here : l.count < length l.bytes = omega arith in
-    let all : take (l.count + 1) (set l.bytes l.count l.rest) ≡ groups_of c.args.n =
-    one_more_taken l.bytes l.count l.rest here ∙ last_written l.invariant.2 c.loop-rest-test.false in
-    (sym (length-take-le (l.count + 1) (set l.bytes l.count l.rest) (simp length-set (omega arith))) ∙ ap length all, all)
+returns c = c.push-2.ensures.items ∙ last_written c.loop-rest.invariant.1 c.loop-rest-test.false

@@ -1,15 +1,16 @@
 -- `machine::Machine::pair` meets its contract. The loop's invariant: only the futures have changed, and pairing what is left from here on gives
 -- what pairing all of them gives from the start.
-use Rattle.std.proofs.Common.{◌-◌, ◌≡◌, ◌≤◌}
-use Rattle.machine.specs.State.{with_futures}
+use Rattle.std.proofs.Common.{◌≡◌, ◌-◌, length}
+use Rattle.machine.specs.State.{row_at, with_futures}
 use Rattle.machine.specs.Pairing.{pair_from}
 use Rattle.machine.proofs.Machine.pair.Given as goal
 
-abbrev pub invariant-loop-k : goal.invariant-loop-k
-invariant-loop-k l = (l.k ≤ l.count)
-    × (l.self ≡ with_futures l.initial.self l.self.futures)
-    × (pair_from (l.count - l.k) l.initial.self.links l.initial.self.items l.row.last l.pending l.k l.self.futures l.cursor
-    ≡ pair_from l.count l.initial.self.links l.initial.self.items l.row.last l.pending 0 l.initial.self.futures l.initial.cursor)
-
-abbrev pub decreases-loop-k : goal.decreases-loop-k
-decreases-loop-k l = l.count - l.k
+abbrev pub invariant-loop-pending : goal.invariant-loop-pending
+invariant-loop-pending l =
+    let m = l.fn.self in
+    let row = row_at m l.fn.at.number in
+    record {
+      all : length l.pending-items ≡ l.count;
+      same : l.self ≡ with_futures m l.self.futures;
+      rest : pair_from (l.count - l.pending-index) m.links m.items row.last row.pending l.pending-index l.self.futures l.cursor ≡ pair_from l.count m.links m.items row.last row.pending 0 m.futures l.fn.start;
+    }

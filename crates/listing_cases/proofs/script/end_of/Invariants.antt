@@ -1,9 +1,0 @@
--- The place stays within the text; the rest of the text is the measure.
-use Rattle.std.proofs.Common.{length, ◌-◌, ◌≤◌}
-use Rattle.listing_cases.proofs.script.end_of.Given as goal
-
-abbrev pub invariant-loop-at : goal.invariant-loop-at
-invariant-loop-at l = (l.from ≤ l.at) × (l.at ≤ length l.text)
-
-abbrev pub decreases-loop-at : goal.decreases-loop-at
-decreases-loop-at l = length l.text - l.at

@@ -1,6 +1,0 @@
--- The rest of the line is the measure.
-use Rattle.std.proofs.Common.{length, ◌-◌}
-use Rattle.number_cases.proofs.named_start.Given as goal
-
-abbrev pub decreases-loop-at : goal.decreases-loop-at
-decreases-loop-at l = length l.line - l.at

@@ -1,9 +1,0 @@
--- The place stays within the bytes; the rest of them is the measure.
-use Rattle.std.proofs.Common.{length, ◌-◌, ◌≤◌}
-use Rattle.number_cases.proofs.show_bytes.Given as goal
-
-abbrev pub invariant-loop-i : goal.invariant-loop-i
-invariant-loop-i l = l.i ≤ length l.bytes
-
-abbrev pub decreases-loop-i : goal.decreases-loop-i
-decreases-loop-i l = length l.bytes - l.i
