@@ -20,16 +20,12 @@ use Rattle.listing.specs.Listing.{counted, listing}
 use Rattle.listing.specs.Pieces.{Piece, opened, first_line, next_line, lines, last_line}
 use Rattle.listing.proofs.Telling.{next_line_few}
 use Rattle.listing.proofs.Blocks.{no_more_lines, one_line_more}
-use Rattle.listing.proofs.Whole.{block_then_block, enough_lines, pieces_are_the_listing, refused_set_up_is_the_listing}
+use Rattle.listing.proofs.Whole.{either_way, block_then_block, enough_lines, pieces_are_the_listing, refused_set_up_is_the_listing}
 use Rattle.bq.specs.Told.{TellsAll}
 
 pub on_ok : {T E : Type 0} {P Q : Type 0} → (r : Result T E) → (P → Q) → OnOk r P → OnOk r Q
 on_ok (Ok x) h p = h p
 on_ok (Err e) h p = p
-
-either_way : {P : Type 0} (g : Bool) → (g ≡ true → P) → (g ≡ false → P) → P
-either_way true f h = f refl
-either_way false f h = h refl
 
 -- the line of what the queue holds has room in 8,192 bytes
 queue_fits : (m : Machine) → length (queue_text (contents m)) ≤ 8192

@@ -19,7 +19,7 @@ together : (p q r : Piece) → before p (before q r) ≡ before (before p q) r
 together p q r = ap (λ (t : List ℕ). record { text = t; after = r.after }) (sym (append_assoc p.text q.text r.text))
 
 -- whether entries go on
-either_way : {P : Type 0} (g : Bool) → (g ≡ true → P) → (g ≡ false → P) → P
+pub either_way : {P : Type 0} (g : Bool) → (g ≡ true → P) → (g ≡ false → P) → P
 either_way true f h = f refl
 either_way false f h = h refl
 

@@ -9,10 +9,10 @@ use place::Place;
 use tally::Tally;
 
 // Pending calls are held by their futures, in calling order; `count` of them. `first` and `last` are the
-// nodes of the first and the last pending enqueue, where there is one; 0 else, as `first_with` and `request` have it, and no
-// `Option`. `future` is the future whose result
-// ends the batch's call: the one named in Evaluate, or the single call's own. The pending calls stay an array and a count: the
-// theorems on the queue speak of both (`pending_future`).
+// nodes of the first and the last pending enqueue, and count only where the tally has one: plain numbers, as
+// in the definitions. `future` is the future whose result ends the batch's call: the one named in Evaluate,
+// or the single call's own. The pending calls are an array and a count and no vector: `with_enqueue` and
+// `with_dequeue` are defined for a full row too, whose count goes beyond the array.
 #[derive(Clone, Copy)]
 pub struct Row {
     pub place: Place,
