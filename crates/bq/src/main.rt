@@ -11,20 +11,20 @@ ghost use Rattle.bq.specs.Told.{TellsAll};
 
 use listing::Listing;
 use machine::Machine;
+use output::Output;
 use refusal::Refusal;
-use std::io;
-use std::io::{Read, Write};
+use std::io::Write;
 
-/// Of longer input only the first 65,536 bytes count: no more are read.
-fn main(rt: HostRuntime) -> io::Result<()> {
-    let mut input = Vec::new(rt.alloc());
-    rt.reader().take(65536).read_to_end(&mut input)?;
-    let mut out = io::writer(&rt);
-    list(&input, &mut out)
+/// Of longer input only the first 65,536 bytes count: no more are read. A read that fails ends the input, and a write that
+/// fails leaves out what it has not written.
+fn main() {
+    let mut input = io::large_buffer();
+    let count = io::read_full(0, &mut input);
+    let _ = list(&input[..count], &mut Output);
 }
 
 /// Writes the listing of a schedule, and nothing else.
-fn list<W: Write>(s: &[u8], out: &mut W) -> io::Result<()>
+fn list<W: Write>(s: &[u8], out: &mut W) -> std::io::Result<()>
     ensures { OnOk result (Appends (W.contents out.old) (W.contents out.new) (listing s.now)) }
 {
     match Listing::of(s) {
@@ -37,7 +37,7 @@ fn list<W: Write>(s: &[u8], out: &mut W) -> io::Result<()>
 }
 
 /// The set-up's line, or why it is refused.
-fn first<W: Write>(made: Result<Machine, Refusal>, out: &mut W) -> io::Result<()>
+fn first<W: Write>(made: Result<Machine, Refusal>, out: &mut W) -> std::io::Result<()>
     ensures { OnOk result (Appends (W.contents out.old) (W.contents out.new) (first_text made)) }
 {
     let line = line::first(made);
@@ -46,7 +46,7 @@ fn first<W: Write>(made: Result<Machine, Refusal>, out: &mut W) -> io::Result<()
 
 /// Block by block. A block tells an entry at least, and an entry takes a byte at least. `Listing::tell` is lent an array, as
 /// `line::queue` is below: their contracts are of what stands in it then.
-fn entries<W: Write>(listing: &mut Listing, s: &[u8], out: &mut W) -> io::Result<()>
+fn entries<W: Write>(listing: &mut Listing, s: &[u8], out: &mut W) -> std::io::Result<()>
     ensures { OnOk result (TellsAll (counted s.now) listing.old (W.contents out.old) (W.contents out.new)) }
 {
     let mut block = [0u8; 65536];
@@ -61,7 +61,7 @@ fn entries<W: Write>(listing: &mut Listing, s: &[u8], out: &mut W) -> io::Result
 }
 
 /// No line of what the queue holds is longer than the buffer, so none is refused.
-fn last<W: Write>(listing: &Listing, out: &mut W) -> io::Result<()>
+fn last<W: Write>(listing: &Listing, out: &mut W) -> std::io::Result<()>
     ensures { OnOk result (Appends (W.contents out.old) (W.contents out.new) (last_line listing.now)) }
 {
     let mut line = [0u8; 8192];

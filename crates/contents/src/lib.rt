@@ -10,6 +10,7 @@ use machine::Machine;
 use pairing::node_behind;
 use place::RunStep;
 use refusal::Refusal;
+use tally::less;
 
 // The node that so many links lead to from a node. The three walks of this file are loops of their own and no iterator: one goes
 // so many steps, one to the end of the chain, one as far as there is room.
@@ -140,7 +141,7 @@ pub fn depth_of(machine: &Machine) -> u32
     ensures { result ≡ depth machine.now }
 {
     let front = front_of(machine);
-    machine.ends.tail.count.0.saturating_sub(front.count.0)
+    less(machine.ends.tail.count.0, front.count.0)
 }
 
 // The same of a machine that is handed over: its promise may not go.

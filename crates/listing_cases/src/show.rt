@@ -1,8 +1,8 @@
 //! Showing listings. A listing is told in blocks of as many lines as a small buffer has room for, so that a
 //! longer one takes several.
 use listing::Listing;
-use std::io::Write;
-use std::{fmt, io};
+use std::fmt;
+use std::io::{Result, Write};
 
 /// Of the text told so far: its bytes, their sum, and the sum of the sums after each byte, which tells their
 /// order too.
@@ -28,7 +28,7 @@ impl Sums {
         self.count = self.count.wrapping_add(text.len());
     }
 
-    fn tell<W: Write>(&mut self, text: &[u8], shown: bool, out: &mut W) -> io::Result<()> {
+    fn tell<W: Write>(&mut self, text: &[u8], shown: bool, out: &mut W) -> Result<()> {
         self.add(text);
         if shown { out.write_all(text) } else { Ok(()) }
     }
@@ -36,7 +36,7 @@ impl Sums {
 
 /// Tells a schedule and shows its listing, but of the entries only those from a place on, or from the next
 /// place on where a block begins: a block has 64 lines.
-pub(crate) fn listing<W: Write>(s: &[u8], shown: u32, out: &mut W) -> io::Result<Sums> {
+pub(crate) fn listing<W: Write>(s: &[u8], shown: u32, out: &mut W) -> Result<Sums> {
     let mut sums = Sums::default();
     let opened = Listing::of(s);
     let line = line::first(opened.map(|listing| listing.machine));
@@ -59,7 +59,7 @@ fn entries<W: Write>(
     shown: u32,
     sums: &mut Sums,
     out: &mut W,
-) -> io::Result<()> {
+) -> Result<()> {
     let mut block = [0u8; 4096];
     for _ in 0..s.len() {
         if !listing.going {

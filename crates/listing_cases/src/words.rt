@@ -1,37 +1,32 @@
 //! Schedules as the input has them. A word is bytes in hex, two digits each, or a number, 'x' and bytes that stand
 //! so many times.
-use std::alloc::{AllocError, Global};
+use arrayvec::ArrayVec;
 
 /// Room for more bytes than count of a schedule.
-const ROOM: usize = 70000;
+pub(crate) const ROOM: usize = 70000;
 
-/// The bytes that words give, as many as find room.
-pub(crate) fn bytes_of(alloc: Global, words: &[u8]) -> Result<Vec<u8>, AllocError> {
-    let mut bytes = Vec::with_capacity(alloc, ROOM)?;
+/// Appends the bytes that words give, as many as find room.
+pub(crate) fn put(words: &[u8], bytes: &mut ArrayVec<u8, ROOM>) {
     for word in words.split(|byte| *byte == b' ') {
-        push_word(&mut bytes, word)?;
+        put_word(word, bytes);
     }
-    Ok(bytes)
 }
 
-fn push_word(bytes: &mut Vec<u8>, word: &[u8]) -> Result<(), AllocError> {
+fn put_word(word: &[u8], bytes: &mut ArrayVec<u8, ROOM>) {
     let mut parts = word.splitn(2, |byte| *byte == b'x');
     let first = parts.next().unwrap_or(b"");
     match parts.next() {
-        Some(digits) => push_times(bytes, digits, leading_number(first)),
-        None => push_times(bytes, first, 1),
+        Some(digits) => put_times(digits, leading_number(first), bytes),
+        None => put_times(first, 1, bytes),
     }
 }
 
-fn push_times(bytes: &mut Vec<u8>, digits: &[u8], times: u32) -> Result<(), AllocError> {
+fn put_times(digits: &[u8], times: u32, bytes: &mut ArrayVec<u8, ROOM>) {
     for _ in 0..times {
-        if digits.is_empty() || ROOM <= bytes.len() {
-            return Ok(());
+        if digits.is_empty() || bytes.extend(digits.chunks(2).map(script::byte)).is_err() {
+            return;
         }
-        let room = ROOM - bytes.len();
-        bytes.extend(digits.chunks(2).take(room).map(script::byte))?;
     }
-    Ok(())
 }
 
 /// The number that a word begins with; 0 where it begins with no digit.

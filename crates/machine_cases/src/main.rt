@@ -5,13 +5,17 @@
 
 mod show;
 
+use arrayvec::ArrayVec;
 use entry::Entry;
 use machine::Machine;
-use std::io;
-use std::io::{BufWriter, Read, Write};
+use output::Output;
+use std::io::Write;
+
+/// A line's room: 511 items take 11 bytes each at most, and what stands before them less than 100.
+const ROOM: usize = 6000;
 
 /// The machine, and the place of the next entry since its set-up.
-#[derive(Drop)]
+#[derive(Clone, Copy)]
 struct Session {
     machine: Machine,
     place: u32,
@@ -19,24 +23,22 @@ struct Session {
 
 /// Takes no more of the input than 65,536 bytes. Entries before the first set-up have the smallest machine. Behind
 /// the last line end no further line begins.
-fn main(rt: HostRuntime) -> io::Result<()> {
-    let mut input = Vec::new(rt.alloc());
-    rt.reader().take(65536).read_to_end(&mut input)?;
-    let mut out = BufWriter::new(rt.alloc(), io::writer(&rt))?;
+fn main() {
+    let mut input = io::large_buffer();
+    let count = io::read_full(0, &mut input);
     let mut session = Session {
         machine: Machine::fresh(1, 2),
         place: 0,
     };
-    for line in input.split_inclusive(|byte| *byte == b'\n') {
+    for line in input[..count].split_inclusive(|byte| *byte == b'\n') {
         let line = line.strip_suffix(b"\n").unwrap_or(line);
-        session.run_line(line, &mut out)?;
+        let _ = session.run_line(line, &mut Output);
     }
-    out.flush()
 }
 
 impl Session {
     /// A comment is shown as it stands.
-    fn run_line<W: Write>(&mut self, line: &[u8], out: &mut W) -> io::Result<()> {
+    fn run_line<W: Write>(&mut self, line: &[u8], out: &mut W) -> std::io::Result<()> {
         if line.starts_with(b"#") {
             out.write_all(line)?;
             return writeln!(out, "");
@@ -52,7 +54,7 @@ impl Session {
     }
 
     /// A new machine of the two numbers of the line, whatever they are; the one before where it is refused.
-    fn set_up<W: Write>(&mut self, threads: u32, nodes: u32, out: &mut W) -> io::Result<()> {
+    fn set_up<W: Write>(&mut self, threads: u32, nodes: u32, out: &mut W) -> std::io::Result<()> {
         match set_up::of(threads, nodes) {
             Err(refusal) => writeln!(out, "refused {}", refusal.number()),
             Ok(machine) => {
@@ -63,12 +65,13 @@ impl Session {
         }
     }
 
-    /// No input is long enough for the place to wrap.
-    fn enter<W: Write>(&mut self, entry: Entry, out: &mut W) -> io::Result<()> {
+    /// No input is long enough for the place to wrap. The line is written at once.
+    fn enter<W: Write>(&mut self, entry: Entry, out: &mut W) -> std::io::Result<()> {
         let reply = self.machine.enter(entry);
-        show::entry(self.place, reply, &self.machine, entry.thread(), out)?;
+        let mut text = ArrayVec::<u8, ROOM>::new();
+        show::entry(self.place, reply, &self.machine, entry.thread(), &mut text)?;
         self.place = self.place.wrapping_add(1);
-        Ok(())
+        out.write_all(&text)
     }
 }
 

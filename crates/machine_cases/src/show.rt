@@ -1,8 +1,7 @@
 //! Showing what an entry gave.
 use machine::{Machine, Reply};
 use place::{BatchStep, DequeueStep, DequeuesStep, EnqueueStep, Place, RunStep};
-use std::io;
-use std::io::Write;
+use std::io::{Result, Write};
 
 /// The line of an entry at a place as in a listing, and behind it the step that the entry's thread would take next,
 /// and the contents.
@@ -12,7 +11,7 @@ pub(crate) fn entry<W: Write>(
     machine: &Machine,
     thread: u32,
     out: &mut W,
-) -> io::Result<()> {
+) -> Result<()> {
     let depth = contents::depth_of(machine);
     let line = line::entry(place, reply.answer, reply.steps, depth);
     let end = line.count.saturating_sub(1);
@@ -24,7 +23,7 @@ pub(crate) fn entry<W: Write>(
 
 /// Each item with a blank in front, oldest first. `contents::write_to` is lent an array, in which they find room: a machine has
 /// fewer than 512.
-fn items<W: Write>(machine: &Machine, out: &mut W) -> io::Result<()> {
+fn items<W: Write>(machine: &Machine, out: &mut W) -> Result<()> {
     let mut items = [0u32; 512];
     match contents::write_to(machine, &mut items) {
         Ok(count) => {

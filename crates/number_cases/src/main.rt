@@ -5,11 +5,12 @@
 //! and in front of them '@', a place and a blank where the reading starts elsewhere than at 0.
 #![tactic(auto)]
 
+use arrayvec::ArrayVec;
 use numbers::Number;
+use output::Output;
 use refusal::Refusal;
-use std::alloc::Global;
-use std::io::{BufWriter, Read, Write};
-use std::{fmt, io};
+use std::fmt;
+use std::io::Write;
 
 /// The writer's room: two bytes more than the longest number takes.
 const ROOM: usize = 7;
@@ -31,27 +32,27 @@ impl fmt::Display for Hex<'_> {
 
 /// Takes no more of the input than 65,536 bytes. An empty line is a case, that of no bytes; behind the last line
 /// end no further line begins.
-fn main(rt: HostRuntime) -> io::Result<()> {
-    let alloc = rt.alloc();
-    let mut input = Vec::new(alloc);
-    rt.reader().take(65536).read_to_end(&mut input)?;
-    let mut out = BufWriter::new(alloc, io::writer(&rt))?;
-    for line in input.split_inclusive(|byte| *byte == b'\n') {
+fn main() {
+    let mut input = io::large_buffer();
+    let count = io::read_full(0, &mut input);
+    for line in input[..count].split_inclusive(|byte| *byte == b'\n') {
         let line = line.strip_suffix(b"\n").unwrap_or(line);
-        run_line(alloc, line, &mut out)?;
+        let _ = run_line(line, &mut Output);
     }
-    out.flush()
 }
 
 /// Shows nothing for a comment. Takes no more bytes of a case than 32, each from three places of the line: two
-/// digits and the blank behind them.
-fn run_line<W: Write>(alloc: Global, line: &[u8], out: &mut W) -> io::Result<()> {
+/// digits and the blank behind them. What the case shows is written at once, and finds room.
+fn run_line<W: Write>(line: &[u8], out: &mut W) -> std::io::Result<()> {
     if line.starts_with(b"#") {
         return Ok(());
     }
     let (place, digits) = start_of(line);
-    let bytes: Vec<u8> = digits.chunks(3).take(32).map(script::byte).collect(alloc)?;
-    run_case(&bytes, place, out)
+    let mut bytes = ArrayVec::<u8, 32>::new();
+    bytes.extend(digits.chunks(3).take(32).map(script::byte))?;
+    let mut text = ArrayVec::<u8, 512>::new();
+    run_case(&bytes, place, &mut text)?;
+    out.write_all(&text)
 }
 
 /// Where a case is read, and what tells its bytes: place 0 and the whole line where the line names no place, else
@@ -67,7 +68,7 @@ fn start_of(line: &[u8]) -> (usize, &[u8]) {
 }
 
 /// Shows the case as it was taken from its line, then what reading it gave.
-fn run_case<W: Write>(bytes: &[u8], place: usize, out: &mut W) -> io::Result<()> {
+fn run_case<W: Write>(bytes: &[u8], place: usize, out: &mut W) -> std::io::Result<()> {
     write!(out, "at {place} of{}: ", Hex { bytes })?;
     match numbers::read(bytes, place) {
         Ok(number) => run_writer(number, out)?,
@@ -78,7 +79,7 @@ fn run_case<W: Write>(bytes: &[u8], place: usize, out: &mut W) -> io::Result<()>
 
 /// Shows a number that was read, and what writing it gives: with room to spare, with just the bytes
 /// that it took there, and with one fewer.
-fn run_writer<W: Write>(number: Number, out: &mut W) -> io::Result<()> {
+fn run_writer<W: Write>(number: Number, out: &mut W) -> std::io::Result<()> {
     let Number { value, next } = number;
     write!(out, "number {value} next {next}")?;
     if let Ok(count) = write_in(ROOM, value, out)? {
@@ -92,7 +93,11 @@ fn run_writer<W: Write>(number: Number, out: &mut W) -> io::Result<()> {
 
 /// Has a number written into as many bytes as `room` says, at most ROOM, which hold ee before: `numbers::write` is lent an array. Shows the writer's
 /// answer, and what the bytes hold then.
-fn write_in<W: Write>(room: usize, value: u32, out: &mut W) -> io::Result<Result<usize, Refusal>> {
+fn write_in<W: Write>(
+    room: usize,
+    value: u32,
+    out: &mut W,
+) -> std::io::Result<Result<usize, Refusal>> {
     let mut bytes = [0xeeu8; ROOM];
     let bytes = &mut bytes[..room.min(ROOM)];
     let answer = numbers::write(bytes, value);

@@ -9,6 +9,7 @@ use access::Access;
 use cells::{Head, Request, Tail};
 use found::Found;
 use place::{After, BatchStep, DequeueStep, DequeuesStep, EnqueueStep, Place, Resume, RunStep};
+use tally::less;
 
 #[tactic(auto, unfolding(crate::specs::Running::run_access))]
 pub fn access(step: RunStep, a: u8, request: Request) -> Access
@@ -102,7 +103,7 @@ pub fn walk_to(request: Request, old: Tail) -> RunStep
 fn size_at(request: Request, old: Tail) -> u32
     ensures { result ≡ size_at request old }
 {
-    old.count.0.saturating_sub(request.old_head.count.0)
+    less(old.count.0, request.old_head.count.0)
 }
 
 fn walk_by(request: Request, old: Tail, size: u32, rise: u32) -> RunStep
@@ -125,7 +126,7 @@ fn walk_by(request: Request, old: Tail, size: u32, rise: u32) -> RunStep
     RunStep::A6 {
         rise,
         at: old.node,
-        left: rise - size,
+        left: less(rise, size),
     }
 }
 

@@ -34,7 +34,7 @@ impl Tally {
         ensures { self.new ≡ with_dequeue self.old }
     {
         self.dequeues = self.dequeues.wrapping_add(1);
-        self.excess = self.excess.max(self.dequeues.saturating_sub(self.enqueues));
+        self.excess = self.excess.max(less(self.dequeues, self.enqueues));
     }
 
     // The tally with one more enqueue noted in it: lent for that, and handed back. By value beside `note_enqueue`, as
@@ -58,13 +58,12 @@ impl Tally {
     pub fn successful(self, size: u32) -> u32
         ensures { result ≡ successful_on self size }
     {
-        let failing = self.excess.saturating_sub(size);
-        self.dequeues.saturating_sub(failing)
+        let failing = less(self.excess, size);
+        less(self.dequeues, failing)
     }
 }
 
-// a less b, and 0 where b is the larger: as 01 takes a size from an excess, and counts from each other. `saturating_sub` by the
-// name that its public promise has.
+// a less b, and 0 where b is the larger: as 01 takes a size from an excess, and counts from each other.
 pub fn less(a: u32, b: u32) -> u32
     ensures { result ≡ a - b }
 {
