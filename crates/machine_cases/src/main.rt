@@ -11,8 +11,8 @@ use machine::Machine;
 use output::Output;
 use std::io::Write;
 
-/// A line's room: 511 items take 11 bytes each at most, and what stands before them less than 100.
-const ROOM: usize = 6000;
+/// A line's room: that of a comment and its line end. The 511 items of an entry's line take less, 11 bytes each at most.
+const ROOM: usize = 65537;
 
 /// The machine, and the place of the next entry since its set-up.
 #[derive(Clone, Copy)]
@@ -22,17 +22,20 @@ struct Session {
 }
 
 /// Takes no more of the input than 65,536 bytes. Entries before the first set-up have the smallest machine. Behind
-/// the last line end no further line begins.
+/// the last line end no further line begins. What a line shows is written at once.
 fn main() {
     let mut input = io::large_buffer();
     let count = io::read_full(0, &mut input);
+    let mut text = ArrayVec::<u8, ROOM>::new();
     let mut session = Session {
         machine: Machine::fresh(1, 2),
         place: 0,
     };
     for line in input[..count].split_inclusive(|byte| *byte == b'\n') {
         let line = line.strip_suffix(b"\n").unwrap_or(line);
-        let _ = session.run_line(line, &mut Output);
+        let _ = session.run_line(line, &mut text);
+        let _ = Output.write_all(&text);
+        text.clear();
     }
 }
 
@@ -65,13 +68,12 @@ impl Session {
         }
     }
 
-    /// No input is long enough for the place to wrap. The line is written at once.
+    /// No input is long enough for the place to wrap.
     fn enter<W: Write>(&mut self, entry: Entry, out: &mut W) -> std::io::Result<()> {
         let reply = self.machine.enter(entry);
-        let mut text = ArrayVec::<u8, ROOM>::new();
-        show::entry(self.place, reply, &self.machine, entry.thread(), &mut text)?;
+        show::entry(self.place, reply, &self.machine, entry.thread(), out)?;
         self.place = self.place.wrapping_add(1);
-        out.write_all(&text)
+        Ok(())
     }
 }
 

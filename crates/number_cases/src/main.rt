@@ -15,6 +15,9 @@ use std::io::Write;
 /// The writer's room: two bytes more than the longest number takes.
 const ROOM: usize = 7;
 
+/// A line's room: 32 bytes take 96, what stands before and behind them less than 200.
+const ROOM_OF_A_LINE: usize = 512;
+
 /// Bytes in hex, a blank in front of each.
 #[derive(Clone, Copy, Drop)]
 struct Hex<'a> {
@@ -31,18 +34,21 @@ impl fmt::Display for Hex<'_> {
 }
 
 /// Takes no more of the input than 65,536 bytes. An empty line is a case, that of no bytes; behind the last line
-/// end no further line begins.
+/// end no further line begins. What a case shows is written at once, and finds room.
 fn main() {
     let mut input = io::large_buffer();
     let count = io::read_full(0, &mut input);
+    let mut text = ArrayVec::<u8, ROOM_OF_A_LINE>::new();
     for line in input[..count].split_inclusive(|byte| *byte == b'\n') {
         let line = line.strip_suffix(b"\n").unwrap_or(line);
-        let _ = run_line(line, &mut Output);
+        let _ = run_line(line, &mut text);
+        let _ = Output.write_all(&text);
+        text.clear();
     }
 }
 
 /// Shows nothing for a comment. Takes no more bytes of a case than 32, each from three places of the line: two
-/// digits and the blank behind them. What the case shows is written at once, and finds room.
+/// digits and the blank behind them.
 fn run_line<W: Write>(line: &[u8], out: &mut W) -> std::io::Result<()> {
     if line.starts_with(b"#") {
         return Ok(());
@@ -50,9 +56,7 @@ fn run_line<W: Write>(line: &[u8], out: &mut W) -> std::io::Result<()> {
     let (place, digits) = start_of(line);
     let mut bytes = ArrayVec::<u8, 32>::new();
     bytes.extend(digits.chunks(3).take(32).map(script::byte))?;
-    let mut text = ArrayVec::<u8, 512>::new();
-    run_case(&bytes, place, &mut text)?;
-    out.write_all(&text)
+    run_case(&bytes, place, out)
 }
 
 /// Where a case is read, and what tells its bytes: place 0 and the whole line where the line names no place, else
