@@ -30,7 +30,7 @@ TWINS = {
 # By point; each search is for one line, in all crates or by crate.
 SEARCHES = {
     "1 own enums like Option or Result": r"enum (?:Writing|Verdict|Reading|SetUpReading|EntryReading|Link|OldTail|Outcome)\b|^\s*Refused\(Refusal\),",
-    "1 flags and verdicts beside a value": r"^\s*(?:pub )?\w+: (?:bool|Verdict),$|\bfn .*enqueue: bool\b|none_left: bool \}",
+    "1 flags and verdicts beside a value": r"^\s*(?:pub )?\w+: (?:bool|Verdict),$|^\s*pub \w+: Result<\(\), Refusal>,$|\bfn .*enqueue: bool\b|none_left: bool \}",
     "1 numbers for kinds": r"fn (?:operands\(code|entry_of|named)\b|letter: u8|code: u32[,)]",
     "1 numbers and values for none": r"(?:[A-Z]\w*::\w+(?:[({].*[)}])?|_) => (?:0|none|Link::None|OldTail::Unset|Head::Announced\(0\)|None),$"
     r"|node_behind\(next, 0\)|^\s{8}0$|^\s{12}0$|return 0;",

@@ -2,9 +2,13 @@
 use mathlib.Core.Path.{refl}
 use Rattle.contracts.specs.Determined.{Determines}
 use Rattle.contracts.proofs.Told.{nothing_required, together, answer}
+use Rattle.answer.specs.contracts.outcome_answer as outcome-answer
 use Rattle.answer.specs.contracts.Future.answer as future-answer
 use Rattle.answer.specs.contracts.Answer.value
 use Rattle.answer.specs.contracts.told_value
+
+pub outcome_answer_determined : {M : Type 1} → Determines M outcome-answer.ended (λ 𝓤. outcome-answer.clauses {𝓤 = 𝓤})
+outcome_answer_determined = record { for_all_inputs = nothing_required; one_outcome = λ i x y. together i (answer refl) }
 
 pub future_answer_determined : {M : Type 1} → Determines M future-answer.ended (λ 𝓤. future-answer.clauses {𝓤 = 𝓤})
 future_answer_determined = record { for_all_inputs = nothing_required; one_outcome = λ i x y. together i (answer refl) }

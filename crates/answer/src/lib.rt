@@ -46,12 +46,11 @@ pub enum Answer {
 impl Future {
     pub const FUTURES: u16 = 512;
 
-    // The answer that gives its result. A future that a batch's end leaves waiting would answer Empty;
-    // there is none in a machine that entries reach.
+    // The answer that gives its result.
     pub fn answer(self) -> Answer
         ensures { result ≡ answered self.outcome }
     {
-        Answer::Ended(self.outcome.unwrap_or(CallResult::Empty))
+        outcome_answer(self.outcome)
     }
 }
 
@@ -66,6 +65,14 @@ impl Answer {
             Answer::Started | Answer::Ended(_) | Answer::More => 0,
         }
     }
+}
+
+// The answer that gives what a future holds. A future that a batch's end leaves waiting would answer Empty; there is
+// none in a machine that entries reach.
+pub fn outcome_answer(outcome: Option<CallResult>) -> Answer
+    ensures { result ≡ answered outcome }
+{
+    Answer::Ended(outcome.unwrap_or(CallResult::Empty))
 }
 
 // The number beside the word of what an entry is told: its answer's, or the refusal's.

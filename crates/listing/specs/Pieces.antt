@@ -11,9 +11,10 @@ use Rattle.machine.specs.Entries.{apply}
 use Rattle.contents.specs.Contents.{contents, depth}
 use Rattle.line.specs.Text.{first_text, entry_text, queue_text}
 use Rattle.listing.specs.declared.Listing.{Listing}
+use Rattle.listing.specs.declared.Opened.{Opened}
 use Rattle.listing.specs.declared.Lines.{Lines}
 use Rattle.listing.specs.Listing.{entry_line, counted}
-use Rattle.refusal.specs.Verdicts.{and_then}
+use Rattle.refusal.specs.Verdicts.{accepted, and_then}
 
 -- some text, and the listing after it
 pub record Piece : Type 0 where
@@ -32,6 +33,14 @@ opened_by reading = and_then reading λ up. Ok (beginning (fresh_machine up.thre
 
 abbrev pub opened : List ℕ → Result Listing Refusal
 opened s = opened_by (set_up_of (counted s))
+
+-- the verdict beside the listing; a refused set-up's is that of a fresh machine of 0 and 0, from the first byte on
+abbrev pub with_verdict : Result Listing Refusal → Opened
+with_verdict (Ok l) = record { verdict = accepted; listing = l }
+with_verdict (Err r) = record { verdict = Err r; listing = beginning (fresh_machine 0 0) 0 }
+
+abbrev pub opened_with_verdict : List ℕ → Opened
+opened_with_verdict s = with_verdict (opened s)
 
 abbrev pub first_line : Result Listing Refusal → List ℕ
 first_line (Ok l) = first_text (Ok l.machine)

@@ -7,7 +7,7 @@ ghost use Rattle.std.specs.Prelude.{true, ◌≡◌, ◌+◌, ◌/◌, ◌^◌, 
 ghost use Rattle.lent.specs.Lent.{written, written_at};
 ghost use Rattle.line.specs.Line.{line_of};
 ghost use Rattle.listing.specs.Listing.{counted};
-ghost use Rattle.listing.specs.Pieces.{opened, ended, refused_at, entered, next_line, lines, told};
+ghost use Rattle.listing.specs.Pieces.{opened, opened_with_verdict, ended, refused_at, entered, next_line, lines, told};
 
 use entry::Entry;
 use line::Line;
@@ -25,6 +25,14 @@ pub struct Listing {
     pub going: bool,
 }
 
+// What a schedule begins with, and its set-up's verdict. It stands beside `Listing::of` since its promise covers a refused
+// set-up too: which listing stands beside the refusal. The listing counts only where the set-up is accepted.
+#[derive(Clone, Copy)]
+pub struct Opened {
+    pub verdict: Result<(), Refusal>,
+    pub listing: Listing,
+}
+
 // The listing after some of its lines, and how many bytes these took.
 #[derive(Clone, Copy)]
 pub struct Lines {
@@ -40,6 +48,29 @@ fn counted(s: &[u8]) -> &[u8]
         return s;
     }
     &s[..Listing::BYTES]
+}
+
+impl Opened {
+    // The listing from behind the set-up; beside a refusal that of a fresh machine of 0 and 0, from the first byte on.
+    pub fn of(s: &[u8]) -> Opened
+        ensures { result ≡ opened_with_verdict s.now }
+    {
+        match Listing::of(s) {
+            Ok(listing) => Opened {
+                verdict: Ok(()),
+                listing,
+            },
+            Err(refusal) => Opened {
+                verdict: Err(refusal),
+                listing: Listing {
+                    machine: Machine::fresh(0, 0),
+                    from: 0,
+                    place: 0,
+                    going: true,
+                },
+            },
+        }
+    }
 }
 
 impl Listing {
