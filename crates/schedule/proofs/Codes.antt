@@ -1,6 +1,7 @@
 -- The codes are 1 to 7, no more and no fewer: each of them has operands, and what holds of each of them holds of every number that has.
 -- And an entry is the same thing as its code with its operands, for the reader as for the writer.
 use Prim.Native.Nat.{ℕ, zero, suc, ◌<◌, ◌≤◌}
+use mathlib.Core.List.{append_assoc}
 use mathlib.Core.Path.{◌≡◌, refl, sym, ap, ◌∙◌, subst}
 use native.Mathlib.Omega.{arith}
 use native.Mathlib.Decide.{ℕ_discrete}
@@ -8,7 +9,8 @@ use borrow.Author.Tests.{ne_eqb}
 use Rattle.entry.specs.declared.Entry.{Entry}
 use Rattle.entry.specs.declared.Entry.TheVariants.{Enqueue, Dequeue, FutureEnqueue, FutureDequeue, Evaluate, Step, Run}
 use Rattle.entry.specs.Operands.{thread_of}
-use Rattle.std.specs.Prelude.{Bool, true, false, eqb, Result, Ok, Err}
+use Rattle.std.specs.Prelude.{Bool, true, false, cond, eqb, ◌++◌, Result, Ok, Err}
+use Rattle.numbers.specs.Write.{groups_of}
 use Rattle.refusal.specs.declared.Refusal.{Refusal}
 use Rattle.refusal.specs.declared.Refusal.TheVariants.{NoSuchCode}
 use Rattle.schedule.specs.declared.code.Code.{Code}
@@ -107,6 +109,17 @@ one_or_two = each_code (λ code. (0 < operands code) × (operands code ≤ 2)) (
 
 pub one_where_not_two : (code : ℕ) → IsCode code → (operands code ≡ 2 → ⊥) → operands code ≡ 1
 one_where_not_two code some not-two = omega (arith, one_or_two code some)
+
+-- so its bytes go by whether it has a second operand, behind the code and the thread
+pub bytes_by_second : (n t x : ℕ) {c : Code} → code_at n ≡ Ok c → entry_bytes n t x ≡ cond (eqb (operands (number_of c)) 2) ((groups_of n ++ groups_of t) ++ groups_of x) (groups_of n ++ groups_of t)
+unfolding entry_bytes
+bytes_by_second n t x {c} e =
+    let read = code_read n e in
+    let some : IsCode n = λ none. absurd (let z : ◌≡◌ {A = Bool} true false = ap (λ (k : ℕ). eqb k 0) (sym none) ∙ read.1 in cc) in
+    elim (ℕ_discrete (operands n) 2) [
+      | yes two ↦ rw (read.0, two) (sym (append_assoc (groups_of n) (groups_of t) (groups_of x)))
+      | no not-two ↦ rw (read.0, ne_eqb (operands n) 2 not-two, one_where_not_two n some not-two) refl
+    ]
 
 -- an entry's code is one
 pub is_a_code : (e : Entry) → IsCode (code_of e)
