@@ -11,8 +11,8 @@ use machine::Machine;
 use output::Output;
 use std::io::Write;
 
-/// A line's room: that of a comment and its line end. The 511 items of an entry's line take less, 11 bytes each at most.
-const ROOM: usize = 65537;
+/// Room for an entry's line: 511 items take 11 bytes each at most, and what stands before them less than 100.
+const ROOM: usize = 6000;
 
 /// The machine, and the place of the next entry since its set-up.
 #[derive(Clone, Copy)]
@@ -22,7 +22,7 @@ struct Session {
 }
 
 /// Takes no more of the input than 65,536 bytes. Entries before the first set-up have the smallest machine. Behind
-/// the last line end no further line begins. What a line shows is written at once.
+/// the last line end no further line begins.
 fn main() {
     let mut input = io::large_buffer();
     let count = io::read_full(0, &mut input);
@@ -33,15 +33,18 @@ fn main() {
     };
     for line in input[..count].split_inclusive(|byte| *byte == b'\n') {
         let line = line.strip_suffix(b"\n").unwrap_or(line);
-        let _ = session.run_line(line, &mut text);
-        let _ = Output.write_all(&text);
-        text.clear();
+        let _ = session.run_line(line, &mut text, &mut Output);
     }
 }
 
 impl Session {
-    /// A comment is shown as it stands.
-    fn run_line<W: Write>(&mut self, line: &[u8], out: &mut W) -> std::io::Result<()> {
+    /// A comment is shown as it stands. `text` is room for a line.
+    fn run_line<W: Write>(
+        &mut self,
+        line: &[u8],
+        text: &mut ArrayVec<u8, ROOM>,
+        out: &mut W,
+    ) -> std::io::Result<()> {
         if line.starts_with(b"#") {
             out.write_all(line)?;
             return writeln!(out, "");
@@ -51,7 +54,7 @@ impl Session {
         let first = numbers.next().unwrap_or(0);
         let second = numbers.next().unwrap_or(0);
         match entry_of(code, first, second) {
-            Some(entry) => self.enter(entry, out),
+            Some(entry) => self.enter(entry, text, out),
             None => self.set_up(first, second, out),
         }
     }
@@ -68,12 +71,18 @@ impl Session {
         }
     }
 
-    /// No input is long enough for the place to wrap.
-    fn enter<W: Write>(&mut self, entry: Entry, out: &mut W) -> std::io::Result<()> {
+    /// The entry's line is written at once. No input is long enough for the place to wrap.
+    fn enter<W: Write>(
+        &mut self,
+        entry: Entry,
+        text: &mut ArrayVec<u8, ROOM>,
+        out: &mut W,
+    ) -> std::io::Result<()> {
         let reply = self.machine.enter(entry);
-        show::entry(self.place, reply, &self.machine, entry.thread(), out)?;
+        text.clear();
+        show::entry(self.place, reply, &self.machine, entry.thread(), text)?;
         self.place = self.place.wrapping_add(1);
-        Ok(())
+        out.write_all(text)
     }
 }
 

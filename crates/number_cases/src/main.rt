@@ -5,7 +5,7 @@
 //! and in front of them '@', a place and a blank where the reading starts elsewhere than at 0.
 #![tactic(auto)]
 
-use arrayvec::ArrayVec;
+use arrayvec::{ArrayString, ArrayVec};
 use numbers::Number;
 use output::Output;
 use refusal::Refusal;
@@ -15,10 +15,7 @@ use std::io::Write;
 /// The writer's room: two bytes more than the longest number takes.
 const ROOM: usize = 7;
 
-/// A line's room: 32 bytes take 96, what stands before and behind them less than 200.
-const ROOM_OF_A_LINE: usize = 512;
-
-/// Bytes in hex, a blank in front of each.
+/// Bytes in hex, a blank in front of each. The two digits of a byte are one piece, since a piece is a write.
 #[derive(Clone, Copy, Drop)]
 struct Hex<'a> {
     bytes: &'a [u8],
@@ -27,23 +24,22 @@ struct Hex<'a> {
 impl fmt::Display for Hex<'_> {
     fn fmt<W: fmt::Write>(&self, f: &mut fmt::Formatter<W>) -> fmt::Result {
         for byte in self.bytes {
-            write!(f, " {byte:02x}")?;
+            let mut digits = ArrayString::<2>::new();
+            fmt::Write::write_fmt(&mut digits, format_args!("{byte:02x}"))?;
+            write!(f, " {digits}")?;
         }
         Ok(())
     }
 }
 
 /// Takes no more of the input than 65,536 bytes. An empty line is a case, that of no bytes; behind the last line
-/// end no further line begins. What a case shows is written at once, and finds room.
+/// end no further line begins.
 fn main() {
     let mut input = io::large_buffer();
     let count = io::read_full(0, &mut input);
-    let mut text = ArrayVec::<u8, ROOM_OF_A_LINE>::new();
     for line in input[..count].split_inclusive(|byte| *byte == b'\n') {
         let line = line.strip_suffix(b"\n").unwrap_or(line);
-        let _ = run_line(line, &mut text);
-        let _ = Output.write_all(&text);
-        text.clear();
+        let _ = run_line(line, &mut Output);
     }
 }
 
@@ -105,10 +101,11 @@ fn write_in<W: Write>(
     let mut bytes = [0xeeu8; ROOM];
     let bytes = &mut bytes[..room.min(ROOM)];
     let answer = numbers::write(bytes, value);
+    write!(out, " | ")?;
     match answer {
-        Ok(count) => write!(out, " | wrote {count}:")?,
-        Err(refusal) => write!(out, " | refused {}:", refusal.number())?,
+        Ok(count) => write!(out, "wrote {count}")?,
+        Err(refusal) => write!(out, "refused {}", refusal.number())?,
     }
-    write!(out, "{}", Hex { bytes })?;
+    write!(out, ":{}", Hex { bytes })?;
     Ok(answer)
 }
